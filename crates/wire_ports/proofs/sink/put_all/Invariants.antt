@@ -1,0 +1,13 @@
+use Rattle.std.proofs.Common.{◌≤◌, ◌-◌, length, take}
+use Rattle.wire_ports.specs.Bytes.{Appends}
+use Rattle.wire_ports.proofs.sink.put_all.Given as goal
+
+abbrev pub invariant-pieces : goal.invariant-pieces
+invariant-pieces g l = let S = g.O.Sink in record {
+  within : l.written ≤ length l.bytes;
+  front : Appends (S.taken l.fn.sink) (take l.written l.bytes) (S.taken l.sink);
+  later : S.faults l.fn.sink ≤ S.faults l.sink;
+}
+
+abbrev pub decreases-pieces : goal.decreases-pieces
+decreases-pieces g l = length l.bytes - l.written

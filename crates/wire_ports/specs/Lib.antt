@@ -1,0 +1,10 @@
+pub mod Bytes
+pub mod FailingCalls
+pub mod FileReading
+pub mod MemoryFiles
+pub mod MemoryReading
+pub mod MemoryTaking
+pub mod NamedBytes
+pub mod Ports
+pub mod Reading
+pub mod Taking
