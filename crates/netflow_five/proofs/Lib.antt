@@ -1,0 +1,6 @@
+pub mod Encoded
+pub mod Faults
+pub mod Files
+pub mod Front
+pub mod OneFault
+pub mod Parts
