@@ -1,0 +1,6 @@
+pub mod Filters
+pub mod Folds
+pub mod Rising
+pub mod SameKey
+pub mod Totals
+pub mod Words

@@ -1,0 +1,6 @@
+pub mod Flows
+pub mod Fold
+pub mod Key
+pub mod Merge
+pub mod Pair
+pub mod Words

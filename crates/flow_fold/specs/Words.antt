@@ -1,0 +1,16 @@
+-- A value as words.
+use Rattle.std.specs.Prelude.{ℕ, ◌+◌, ◌*◌, ◌/◌, ◌%◌, ◌^◌, List, [], ◌∷◌, slice_index}
+use Rattle.flow_fold.specs.declared.value.Value.{Value}
+
+-- packets, octets, and first above last
+unfoldable pub words_of : Value → List ℕ
+words_of v = v.packets ∷ v.octets ∷ (v.first * 2 ^ 32 + v.last) ∷ []
+
+-- the value that has these words
+unfoldable pub value_of_words : List ℕ → Value
+value_of_words ws = record {
+  packets = slice_index ws 0;
+  octets = slice_index ws 1;
+  first = slice_index ws 2 / 2 ^ 32;
+  last = slice_index ws 2 % 2 ^ 32;
+}
