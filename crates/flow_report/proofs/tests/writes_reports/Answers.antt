@@ -1,0 +1,19 @@
+use Rattle.std.specs.List.Sorted.{IsStrictlySortedBy}
+use Rattle.std.proofs.Common.{refl}
+use Rattle.flow_report.proofs.tests.writes_reports.Goals as goal
+
+pub report-requires : goal.report-requires
+unfolding IsStrictlySortedBy
+report-requires g c = tt
+
+pub report-requires-2 : goal.report-requires-2
+unfolding IsStrictlySortedBy
+report-requires-2 g c = (tt, tt)
+
+pub report-requires-3 : goal.report-requires-3
+unfolding IsStrictlySortedBy
+report-requires-3 g c = ((refl, tt), (tt, tt))
+
+pub report-requires-4 : goal.report-requires-4
+unfolding IsStrictlySortedBy
+report-requires-4 g c = ((refl, tt), (tt, tt))

@@ -1,0 +1,5 @@
+pub mod Ranges
+pub mod ReadBack
+pub mod Reading
+pub mod Sums
+pub mod Text

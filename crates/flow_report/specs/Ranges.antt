@@ -1,0 +1,26 @@
+-- The ranges of a flow's numbers and of the totals.
+use Rattle.std.specs.Prelude.{◌<◌, ◌^◌}
+use Rattle.flow_fold.specs.declared.key.Key.{Key}
+use Rattle.flow_fold.specs.declared.value.Value.{Value}
+use Rattle.flow_report.specs.declared.totals.Totals.{Totals}
+
+-- both words of the key are below 2^64
+pub record IsKeyInRange (key : Key) : Type 0 where
+  pub k0 : key.k0 < 2 ^ 64
+  pub k1 : key.k1 < 2 ^ 64
+
+-- packets and octets are below 2^64, first and last below 2^32
+pub record IsValueInRange (value : Value) : Type 0 where
+  pub packets : value.packets < 2 ^ 64
+  pub octets : value.octets < 2 ^ 64
+  pub first : value.first < 2 ^ 32
+  pub last : value.last < 2 ^ 32
+
+-- the key and the value are in range
+abbrev pub IsFlowInRange : Key × Value → Type 0
+IsFlowInRange flow = IsKeyInRange flow.0 × IsValueInRange flow.1
+
+-- records and datagrams are below 2^64
+pub record AreTotalsInRange (totals : Totals) : Type 0 where
+  pub records : totals.records < 2 ^ 64
+  pub datagrams : totals.datagrams < 2 ^ 64

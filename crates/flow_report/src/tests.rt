@@ -1,0 +1,180 @@
+use crate::{ReportEnd, Totals, read_report, report};
+use flow_fold::{Key, Value};
+use std::test::Fail;
+
+const fn totals(records: u64, datagrams: u64) -> Totals {
+    Totals { records, datagrams }
+}
+
+const NONE: &str = "flows 0 packets 0 octets 0 records 0 datagrams 0\n";
+
+const A: (Key, Value) = (
+    Key {
+        k0: 0x0A00_0001_0A00_0002,
+        k1: 0x04D2_0050_0600_0001,
+    },
+    Value {
+        packets: 12,
+        octets: 3400,
+        first: 1000,
+        last: 2000,
+    },
+);
+
+const A_TEXT: &str = "10.0.0.1 10.0.0.2 1234 80 6 0 1 12 3400 1000 2000\n\
+                      flows 1 packets 12 octets 3400 records 1 datagrams 1\n";
+
+// The flows of one datagram of two records.
+const TWO: [(Key, Value); 2] = [
+    (
+        Key {
+            k0: 0xC0A8_010A_C633_6407,
+            k1: 0x0000_0800_0100_0003,
+        },
+        Value {
+            packets: 5,
+            octets: 420,
+            first: 3_550_000,
+            last: 3_554_000,
+        },
+    ),
+    (
+        Key {
+            k0: 0xC0A8_010A_CB00_7105,
+            k1: 0xC000_01BB_0600_0003,
+        },
+        Value {
+            packets: 25,
+            octets: 18_230,
+            first: 3_541_200,
+            last: 3_555_300,
+        },
+    ),
+];
+
+const TWO_TEXT: &str = "192.168.1.10 198.51.100.7 0 2048 1 0 3 5 420 3550000 3554000\n\
+                        192.168.1.10 203.0.113.5 49152 443 6 0 3 25 18230 3541200 3555300\n\
+                        flows 2 packets 30 octets 18650 records 2 datagrams 1\n";
+
+// The greatest numbers, whose sums have more than 64 bits.
+const LARGE: [(Key, Value); 2] = [
+    (
+        Key {
+            k0: 0,
+            k1: u64::MAX,
+        },
+        Value {
+            packets: u64::MAX,
+            octets: u64::MAX,
+            first: u32::MAX,
+            last: u32::MAX,
+        },
+    ),
+    (
+        Key {
+            k0: u64::MAX,
+            k1: u64::MAX,
+        },
+        Value {
+            packets: u64::MAX,
+            octets: u64::MAX,
+            first: u32::MAX,
+            last: u32::MAX,
+        },
+    ),
+];
+
+const LARGE_TEXT: &str =
+    "0.0.0.0 0.0.0.0 65535 65535 255 255 65535 18446744073709551615 18446744073709551615 4294967295 4294967295\n\
+                          255.255.255.255 255.255.255.255 65535 65535 255 255 65535 18446744073709551615 18446744073709551615 4294967295 4294967295\n\
+                          flows 2 packets 36893488147419103230 octets 36893488147419103230 records 18446744073709551615 datagrams 0\n";
+
+#[test]
+fn writes_reports(rt: HostRuntime) -> Result<(), Fail> {
+    let text = report(rt.alloc(), &[], &totals(0, 0))?;
+    assert_eq!(rt; text.as_slice(), NONE.as_bytes());
+    let text = report(rt.alloc(), &[A], &totals(1, 1))?;
+    assert_eq!(rt; text.as_slice(), A_TEXT.as_bytes());
+    let text = report(rt.alloc(), &TWO, &totals(2, 1))?;
+    assert_eq!(rt; text.as_slice(), TWO_TEXT.as_bytes());
+    let text = report(rt.alloc(), &LARGE, &totals(u64::MAX, 0))?;
+    assert_eq!(rt; text.as_slice(), LARGE_TEXT.as_bytes());
+    Ok(())
+}
+
+#[test]
+fn reads_reports_back(rt: HostRuntime) -> Result<(), Fail> {
+    let cases: [(&str, &[(Key, Value)], Totals); 4] = [
+        (NONE, &[], totals(0, 0)),
+        (A_TEXT, &[A], totals(1, 1)),
+        (TWO_TEXT, &TWO, totals(2, 1)),
+        (LARGE_TEXT, &LARGE, totals(u64::MAX, 0)),
+    ];
+    for (text, flows, totals) in cases {
+        let back = read_report(rt.alloc(), text.as_bytes())?;
+        assert_eq!(rt; back.flows.as_slice(), flows, "at {text}");
+        assert_eq!(rt; back.totals, totals, "at {text}");
+    }
+    Ok(())
+}
+
+#[test]
+fn finds_bad_lines(rt: HostRuntime) {
+    let cases = [
+        ("", 1),
+        ("\n", 1),
+        // no last line
+        ("10.0.0.1 10.0.0.2 1234 80 6 0 1 12 3400 1000 2000\n", 2),
+        // no line feed at the end
+        ("10.0.0.1 10.0.0.2 1234 80 6 0 1 12 3400 1000 2000", 1),
+        ("flows 0 packets 0 octets 0 records 0 datagrams 0", 1),
+        // sums that don't agree
+        ("flows 1 packets 0 octets 0 records 0 datagrams 0\n", 1),
+        (
+            "10.0.0.1 10.0.0.2 1234 80 6 0 1 12 3400 1000 2000\n\
+             flows 1 packets 13 octets 3400 records 1 datagrams 1\n",
+            2,
+        ),
+        // keys that fall, and equal ones
+        (
+            "192.168.1.10 203.0.113.5 49152 443 6 0 3 25 18230 3541200 3555300\n\
+             192.168.1.10 198.51.100.7 0 2048 1 0 3 5 420 3550000 3554000\n\
+             flows 2 packets 30 octets 18650 records 2 datagrams 1\n",
+            2,
+        ),
+        (
+            "10.0.0.1 10.0.0.2 1234 80 6 0 1 12 3400 1000 2000\n\
+             10.0.0.1 10.0.0.2 1234 80 6 0 1 12 3400 1000 2000\n\
+             flows 2 packets 24 octets 6800 records 2 datagrams 1\n",
+            2,
+        ),
+        // a needless zero, a needless space, numbers out of range
+        ("10.0.0.1 10.0.0.02 1234 80 6 0 1 12 3400 1000 2000\n", 1),
+        ("10.0.0.1  10.0.0.2 1234 80 6 0 1 12 3400 1000 2000\n", 1),
+        ("10.0.0.256 10.0.0.2 1234 80 6 0 1 12 3400 1000 2000\n", 1),
+        ("10.0.0.1 10.0.0.2 65536 80 6 0 1 12 3400 1000 2000\n", 1),
+        (
+            "10.0.0.1 10.0.0.2 1234 80 6 0 1 18446744073709551616 3400 1000 2000\n",
+            1,
+        ),
+        (
+            "10.0.0.1 10.0.0.2 1234 80 6 0 1 12 3400 4294967296 2000\n",
+            1,
+        ),
+        (
+            "flows 0 packets 0 octets 0 records 18446744073709551616 datagrams 0\n",
+            1,
+        ),
+        // a last line that isn't the last
+        (
+            "10.0.0.1 10.0.0.2 1234 80 6 0 1 12 3400 1000 2000\n\
+             flows 1 packets 12 octets 3400 records 1 datagrams 1\n\
+             \n",
+            2,
+        ),
+    ];
+    for (text, line) in cases {
+        let end = read_report(rt.alloc(), text.as_bytes()).err();
+        assert_eq!(rt; end, Some(ReportEnd::BadLine { line }), "at {text}");
+    }
+}
