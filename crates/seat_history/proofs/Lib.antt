@@ -1,0 +1,5 @@
+pub mod Blank
+pub mod Changed
+pub mod Histories
+pub mod Numbered
+pub mod Replies

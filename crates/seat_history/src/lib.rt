@@ -1,0 +1,26 @@
+//! The calls and replies of a shared object of registers and pairs, and the object of one thread
+//! that says what they mean: whatever an object does for many callers is judged by a history of
+//! calls on this one.
+#![tactic(auto)]
+
+mod call;
+mod entry;
+mod key;
+mod laws;
+mod map;
+mod pair_list;
+mod plain;
+mod registers;
+mod reply;
+#[cfg(test)]
+mod tests;
+mod words;
+
+pub use call::Call;
+pub use entry::Entry;
+pub use key::KeyWords;
+pub use laws::{change_is_told, never_full};
+pub use pair_list::PairList;
+pub use plain::{CALLERS, Plain};
+pub use reply::Reply;
+pub use words::{Rec, VALUE_WIDTH, ValWords, WIDTH};
