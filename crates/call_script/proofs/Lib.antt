@@ -1,0 +1,12 @@
+pub mod Parts
+pub mod ReadDigits
+pub mod Numbers
+pub mod Tuples
+pub mod Zips
+pub mod Forms
+pub mod Spelled
+pub mod Causes
+pub mod SoFar
+pub mod OneCall
+pub mod OneReading
+pub mod Texts

@@ -1,0 +1,12 @@
+use Rattle.std.specs.Prelude.{◌==◌}
+use Rattle.std.proofs.Common.{◌≡◌, ◌∙◌, ℕ, List, ◌∷◌, ◌-◌, take, drop, length, ap, sym, arith, rules, refl}
+use Rattle.call_script.specs.Cut.{parts_at}
+use Rattle.call_script.proofs.Parts.{split_none, split_some, rest_of}
+use Rattle.call_script.proofs.cut.cut.Goals as goal
+
+pub returns-in-None : goal.returns-in-None
+returns-in-None c = split_none (λ b. b == c.args.byte) c.args.bytes.now (sym c.in-None.ensures)
+
+pub returns-in-Some : goal.returns-in-Some
+returns-in-Some c =
+    rest_of (λ b. b == c.args.byte) c.args.bytes.now c.in-Some.place _ _ (sym c.in-Some.ensures) c.split_at.ensures.front c.split_at.ensures.back

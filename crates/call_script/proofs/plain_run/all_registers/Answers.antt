@@ -1,0 +1,11 @@
+use Rattle.std.specs.List.{range_with_len}
+use Rattle.std.proofs.Common.{◌≡◌, ◌∙◌, ◌++◌, ◌∷◌, [], List, ℕ, map, ap, ap₂, sym, arith}
+use Rattle.std.proofs.lemmas.List.FromFn.{map-range_with_len_more}
+use Rattle.seat_history.specs.Plain.{object_of}
+use Rattle.call_script.proofs.plain_run.all_registers.Goals as goal
+
+pub loop-reg-preserved : goal.loop-reg-preserved
+loop-reg-preserved c =
+    let words = (object_of c.args.plain.now).contents.registers in
+    c.in_ok-push.ensures.items ∙ ap₂ (λ (rs : List (List ℕ)) (r : List ℕ). rs ++ r ∷ []) c.loop-reg.invariant c.register.ensures
+    ∙ sym (map-range_with_len_more words 0 c.loop-reg.reg c.loop-reg.reg (omega arith))

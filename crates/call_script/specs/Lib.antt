@@ -1,0 +1,10 @@
+pub mod Cut
+pub mod Digits
+pub mod Form
+pub mod Holding
+pub mod Line
+pub mod Number
+pub mod Run
+pub mod Script
+pub mod Spelling
+pub mod Text

@@ -1,0 +1,31 @@
+//! Scripts of calls, and the text of what comes of them.
+#![tactic(auto)]
+
+mod bad_script;
+mod calls;
+mod cut;
+mod driven;
+mod form;
+mod holding;
+mod line_list;
+mod lines;
+mod number;
+mod plain_run;
+mod reading;
+mod rec_list;
+mod reply_list;
+mod script;
+#[cfg(test)]
+mod tests;
+mod writing;
+
+pub use bad_script::{BadScript, LineCause};
+pub use driven::Driven;
+pub use line_list::LineList;
+pub use plain_run::run_plain;
+pub use reading::read_script;
+pub use rec_list::RecList;
+pub use reply_list::ReplyList;
+pub use script::{MOST_LINES, REGISTERS, Script};
+pub use seat_history::Entry as Line;
+pub use writing::write_replies;
