@@ -1,0 +1,163 @@
+-- Files are read one after the other: one more that is tallied, and the first that isn't.
+use Rattle.std.specs.Prelude.{slice_get, Ok, Err, map}
+use Rattle.std.specs.List.{AllByRecursion}
+use Rattle.std.proofs.Common.{◌≡◌, ◌∙◌, ℕ, ◌+◌, ◌-◌, ◌≤◌, ◌^◌, Option, Some, None, List, [], ◌∷◌, ◌++◌, length, take, refl, sym, ap, ap₂, subst, arith, inl, inr}
+use Rattle.std.proofs.lemmas.Bool.{cases_lt}
+use Rattle.std.proofs.lemmas.List.{length-append, append-nil, map-append, take_all}
+use Rattle.wire_ports.specs.Ports.{Names, HasRisen, bytes_under}
+use Rattle.wire_ports.specs.declared.feed.FailedIn.{FailedIn}
+use Rattle.netflow_five.specs.File.{joined, IsFile, IsWellFormed}
+use Rattle.netflow_five.proofs.Files.{joined-append, files_joined}
+use Rattle.flow_tally.specs.Input.{most_bytes, AreContents, IsBytesOf, IsAt, IsTooLarge, RefusesFiles}
+use Rattle.flow_tally.specs.Reading.{IsLongerFile, Reads, AddsFile, IsTalliedOf, HasRead}
+use Rattle.flow_tally.specs.Tallied.{HasTallied}
+use Rattle.flow_tally.specs.declared.status.Status.{Status}
+use Rattle.flow_tally.specs.declared.status.Status.TheVariants.{Done, Usage, OpenFault, ReadFault, WriteFault, BadDatagram, TooManyFlows, InputTooLarge, BadScript, NoMemory, PlanTooLarge}
+use Rattle.flow_tally.specs.declared.tallied.Tallied.{Tallied}
+use Rattle.flow_tally.proofs.Lists.{take_get, length-take_get}
+
+-- the first i files are these contents, they are tallied, and so much room is left
+pub record ReadSoFar (names : Option Names) (files : List (List ℕ)) (i left : ℕ) (contents ds : List (List ℕ)) (tallied : Tallied) : Type 0 where
+  pub count : length contents ≡ i
+  pub told : AreContents names (take i files) contents
+  pub sum : IsTalliedOf contents ds tallied
+  pub room : left + length (joined contents) ≡ most_bytes
+
+abbrev pub SoFar : Option Names → List (List ℕ) → ℕ → ℕ → Tallied → Type 0
+SoFar names files i left tallied = (contents : List (List ℕ)) × (ds : List (List ℕ)) × ReadSoFar names files i left contents ds tallied
+
+no_contents : (names : Option Names) → AreContents names [] []
+no_contents None = refl
+no_contents (Some names) = refl
+
+pub none_so_far : (names : Option Names) (files : List (List ℕ)) (tallied : Tallied) → HasTallied [] tallied → SoFar names files 0 most_bytes tallied
+none_so_far names files tallied had = (
+  [],
+  [],
+  record {
+    count = refl;
+    told = no_contents names;
+    sum = record { good = record { each = tt; within = omega arith }; file = record { each = tt; whole = refl }; tally = had };
+    room = omega arith;
+  },
+)
+
+told_more : (names : Option Names) (files contents : List (List ℕ)) (i : ℕ) (name bytes : List ℕ) → length contents ≡ i → slice_get files i ≡ Some name
+    → AreContents names (take i files) contents → IsBytesOf names name bytes → AreContents names (take (i + 1) files) (contents ++ bytes ∷ [])
+told_more None files contents i name bytes count is told bytes_is =
+    omega (arith, count, length-append contents (bytes ∷ []), length-take_get files i name is)
+told_more (Some names) files contents i name bytes count is told bytes_is =
+    ap₂ (λ (x : List (List ℕ)) (y : List ℕ). x ++ y ∷ []) told bytes_is
+    ∙ sym (map-append (bytes_under names) (take i files) (name ∷ []))
+    ∙ ap (map (bytes_under names)) (sym (take_get files i name is))
+
+each_more : (contents : List (List ℕ)) (bytes : List ℕ) → AllByRecursion IsWellFormed contents → IsWellFormed bytes → AllByRecursion IsWellFormed (contents ++ bytes ∷ [])
+each_more [] bytes all well = (well, tt)
+each_more (x ∷ xs) bytes all well = (all.0, each_more xs bytes all.1 well)
+
+joined_more : (contents : List (List ℕ)) (bytes : List ℕ) → joined (contents ++ bytes ∷ []) ≡ joined contents ++ bytes
+joined_more contents bytes = joined-append contents (bytes ∷ []) ∙ ap (λ (z : List ℕ). joined contents ++ z) (append-nil bytes)
+
+-- one file more
+pub file_so_far : (names : Option Names) (files : List (List ℕ)) (i left n : ℕ) (name : List ℕ) (before after : ℕ) (failed : Option (ℕ × FailedIn)) (file : ℕ) (old new : Tallied)
+    → slice_get files i ≡ Some name → SoFar names files i left old → AddsFile left names name before after failed file old new (Ok n) → SoFar names files (i + 1) (left - n) new
+file_so_far names files i left n name before after failed file old new is so_far adds =
+    let contents = so_far.0 in
+    let ds = so_far.1 in
+    let had = so_far.2 in
+    let bytes = adds.1 in
+    let size : n ≡ length bytes = adds.3 in
+    let small : n ≤ left = adds.0 in
+    let room : left + length (joined contents) ≡ most_bytes = had.room in
+    let whole : length (joined (contents ++ bytes ∷ [])) ≡ length (joined contents) + length bytes =
+    ap length (joined_more contents bytes) ∙ length-append (joined contents) bytes in (
+      contents ++ bytes ∷ [],
+      ds ++ adds.2,
+      record {
+        count = omega (arith, had.count, length-append contents (bytes ∷ []));
+        told = told_more names files contents i name bytes had.count is had.told adds.4;
+        sum = record {
+          good = record { each = each_more contents bytes had.sum.good.each (adds.2, adds.5); within = omega arith };
+          file = subst (λ (z : List ℕ). IsFile z (ds ++ adds.2)) (sym (joined_more contents bytes)) (files_joined (joined contents) bytes ds adds.2 had.sum.file adds.5);
+          tally = adds.6 ds had.sum.tally;
+        };
+        room = omega arith;
+      },
+    )
+
+-- after the last file all were read
+pub all_so_far : (names : Option Names) (files : List (List ℕ)) (i left : ℕ) (tallied : Tallied) → length files ≤ i → SoFar names files i left tallied → HasRead names files tallied
+all_so_far names files i left tallied end so_far =
+    (so_far.0, so_far.1, subst (λ (fs : List (List ℕ)). AreContents names fs so_far.0) (take_all i files end) so_far.2.told, so_far.2.sum)
+
+at_file : (names : Option Names) (files : List (List ℕ)) (i left : ℕ) (name : List ℕ) (tallied : Tallied) (contents ds : List (List ℕ)) (file : ℕ)
+    → slice_get files i ≡ Some name → file ≡ i + 1 → ReadSoFar names files i left contents ds tallied → IsAt names files file contents name
+at_file names files i left name tallied contents ds file is number had = record {
+  number = omega (arith, number, had.count);
+  name_there = ap (slice_get files) had.count ∙ is;
+  told = subst (λ (k : ℕ). AreContents names (take k files) contents) (sym had.count) had.told;
+  good = had.sum.good;
+}
+
+too_large : (names : Option Names) (contents : List (List ℕ)) (name : List ℕ) (left : ℕ) → left + length (joined contents) ≡ most_bytes → IsLongerFile left names name → IsTooLarge names contents name
+too_large None contents name left room longer = tt
+too_large (Some names) contents name left room longer = omega arith
+
+-- the one file of a list
+alone : (names : Option Names) (name : List ℕ) (file : ℕ) → file ≡ 1 → IsAt names (name ∷ []) file [] name
+alone names name file is = record { number = is; name_there = refl; told = no_contents names; good = record { each = tt; within = omega arith } }
+
+-- a rise counts from any time before
+risen_later : (a b c : ℕ) → HasRisen b c → a ≤ b → b ≤ c → HasRisen a c
+risen_later a b c (inl lt) first second = inl (omega arith)
+risen_later a b c (inr is) first second = elim (cases_lt a b) [ inl lt ↦ inl (omega arith) | inr ge ↦ let same : a ≡ 2 ^ 64 - 1 = omega arith in inr same ]
+
+-- a file that can't be tallied
+pub file_refused : (names : Option Names) (files : List (List ℕ)) (i left : ℕ) (name : List ℕ) (first before after : ℕ) (failed : Option (ℕ × FailedIn)) (file : ℕ) (old new : Tallied) (status : Status)
+    → slice_get files i ≡ Some name → file ≡ i + 1 → first ≤ before → before ≤ after → SoFar names files i left old → AddsFile left names name before after failed file old new (Err status)
+    → RefusesFiles files (record { names = names; before = first; after = after; failed = failed }) status
+file_refused names files i left name first before after failed file old new (OpenFault number) is number_is earlier later so_far adds = (
+  so_far.0,
+  name,
+  at_file names files i left name old so_far.0 so_far.1 number is (adds.0 ∙ number_is) so_far.2,
+  risen_later first before after adds.1 earlier later,
+  adds.2,
+)
+file_refused names files i left name first before after failed file old new (ReadFault number) is number_is earlier later so_far adds = (
+  so_far.0,
+  name,
+  at_file names files i left name old so_far.0 so_far.1 number is (adds.0 ∙ number_is) so_far.2,
+  risen_later first before after adds.1 earlier later,
+  adds.2,
+)
+file_refused names files i left name first before after failed file old new (InputTooLarge number) is number_is earlier later so_far adds =
+    (so_far.0, name, at_file names files i left name old so_far.0 so_far.1 number is (adds.0 ∙ number_is) so_far.2, too_large names so_far.0 name left so_far.2.room adds.1)
+file_refused names files i left name first before after failed file old new (BadDatagram number offset cause) is number_is earlier later so_far adds = (
+  so_far.0,
+  name,
+  adds.1,
+  at_file names files i left name old so_far.0 so_far.1 number is (adds.0 ∙ number_is) so_far.2,
+  record { told = adds.2; within = omega (arith, adds.3, so_far.2.room); bad = adds.4 },
+)
+file_refused names files i left name first before after failed file old new NoMemory is number_is earlier later so_far adds = tt
+file_refused names files i left name first before after failed file old new Done is number_is earlier later so_far adds = absurd adds
+file_refused names files i left name first before after failed file old new Usage is number_is earlier later so_far adds = absurd adds
+file_refused names files i left name first before after failed file old new (WriteFault written) is number_is earlier later so_far adds = absurd adds
+file_refused names files i left name first before after failed file old new (TooManyFlows limit) is number_is earlier later so_far adds = absurd adds
+file_refused names files i left name first before after failed file old new (BadScript fault) is number_is earlier later so_far adds = absurd adds
+file_refused names files i left name first before after failed file old new (PlanTooLarge nodes) is number_is earlier later so_far adds = absurd adds
+
+-- a file that is read alone and fails
+pub one_refused : (names : Option Names) (name : List ℕ) (before after : ℕ) (failed : Option (ℕ × FailedIn)) (status : Status)
+    → Reads most_bytes names name before after failed 1 (Err status) → RefusesFiles (name ∷ []) (record { names = names; before = before; after = after; failed = failed }) status
+one_refused names name before after failed (OpenFault number) reads = ([], name, alone names name number reads.0, reads.1, reads.2)
+one_refused names name before after failed (ReadFault number) reads = ([], name, alone names name number reads.0, reads.1, reads.2)
+one_refused names name before after failed (InputTooLarge number) reads = ([], name, alone names name number reads.0, too_large names [] name most_bytes (omega arith) reads.1)
+one_refused names name before after failed NoMemory reads = tt
+one_refused names name before after failed Done reads = absurd reads
+one_refused names name before after failed Usage reads = absurd reads
+one_refused names name before after failed (WriteFault written) reads = absurd reads
+one_refused names name before after failed (BadDatagram file offset cause) reads = absurd reads
+one_refused names name before after failed (TooManyFlows limit) reads = absurd reads
+one_refused names name before after failed (BadScript fault) reads = absurd reads
+one_refused names name before after failed (PlanTooLarge nodes) reads = absurd reads

@@ -1,0 +1,14 @@
+pub mod Digits
+pub mod Inputs
+pub mod Lists
+pub mod OutcomeComplete
+pub mod OutcomeDrive
+pub mod OutcomeFirstFile
+pub mod OutcomeOne
+pub mod OutcomeReport
+pub mod Outcomes
+pub mod Parse
+pub mod Rules
+pub mod ScriptRuns
+pub mod Tallies
+pub mod Told

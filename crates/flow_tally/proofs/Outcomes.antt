@@ -1,0 +1,47 @@
+-- From what a run comes to, to what the status that is told says.
+use Rattle.std.proofs.Common.{Option, Some, None, sym, subst, inl, inr}
+use Rattle.flow_tally.specs.Input.{FeedShown}
+use Rattle.flow_tally.specs.OutShown.{OutShown}
+use Rattle.flow_tally.specs.Outcome.{Says, NothingSays, TallySays}
+use Rattle.flow_tally.specs.Telling.{HasNumbers, IsToldAs}
+use Rattle.flow_tally.specs.Words.{Tally, Command, OfTally, OfDrive}
+use Rattle.flow_tally.proofs.OutcomeDrive.{no_memory_of_drive}
+use Rattle.flow_tally.specs.declared.status.Status.{Status}
+use Rattle.flow_tally.specs.declared.status.Status.TheVariants.{Done, Usage, OpenFault, ReadFault, WriteFault, BadDatagram, TooManyFlows, InputTooLarge, BadScript, NoMemory, PlanTooLarge}
+
+-- a tally that ended before its output may end for want of memory as well
+no_memory_of : (tally : Tally) (feed : FeedShown) (out : OutShown) (status : Status) → HasNumbers status → TallySays tally feed out status → TallySays tally feed out NoMemory
+no_memory_of tally feed out Done before says = absurd before
+no_memory_of tally feed out Usage before says = absurd before
+no_memory_of tally feed out (OpenFault file) before says = (tt, says.1)
+no_memory_of tally feed out (ReadFault file) before says = (tt, says.1)
+no_memory_of tally feed out (WriteFault written) before says = absurd before
+no_memory_of tally feed out (BadDatagram file offset cause) before says = (tt, says.1)
+no_memory_of tally feed out (TooManyFlows limit) before says = (tt, says.1)
+no_memory_of tally feed out (InputTooLarge file) before says = (tt, says.1)
+no_memory_of tally feed out NoMemory before says = absurd before
+no_memory_of tally feed out (BadScript fault) before says = (tt, says.1)
+no_memory_of tally feed out (PlanTooLarge nodes) before says = (tt, says.1)
+
+none_of : (out : OutShown) (status : Status) → HasNumbers status → NothingSays out status → NothingSays out NoMemory
+none_of out Done before says = absurd before
+none_of out Usage before says = absurd before
+none_of out (OpenFault file) before says = absurd says
+none_of out (ReadFault file) before says = absurd says
+none_of out (WriteFault written) before says = absurd before
+none_of out (BadDatagram file offset cause) before says = absurd says
+none_of out (TooManyFlows limit) before says = absurd says
+none_of out (InputTooLarge file) before says = absurd says
+none_of out NoMemory before says = absurd before
+none_of out (BadScript fault) before says = absurd says
+none_of out (PlanTooLarge nodes) before says = absurd says
+
+memory_of : (asked : Option Command) (feed : FeedShown) (out : OutShown) (status : Status) → HasNumbers status → Says asked feed out status → Says asked feed out NoMemory
+memory_of None feed out status before says = none_of out status before says
+memory_of (Some (OfTally tally)) feed out status before says = no_memory_of tally feed out status before says
+memory_of (Some (OfDrive drive)) feed out status before says = no_memory_of_drive drive feed out status before says
+
+-- what holds of a status holds of it as it is told
+pub told_says : (asked : Option Command) (feed : FeedShown) (out : OutShown) (status told : Status) → IsToldAs status told → Says asked feed out status → Says asked feed out told
+told_says asked feed out status told (inl same) says = subst (λ (s : Status). Says asked feed out s) (sym same) says
+told_says asked feed out status told (inr memory) says = subst (λ (s : Status). Says asked feed out s) (sym memory.0) (memory_of asked feed out status memory.1 says)

@@ -1,0 +1,16 @@
+use Rattle.std.specs.Prelude.{map}
+use Rattle.std.specs.String.{string_bytes}
+use Rattle.std.proofs.Common.{◌≡◌, ◌+◌, ◌≤◌}
+use Rattle.flow_tally.specs.Input.{most_bytes}
+use Rattle.flow_tally.proofs.Inputs.{SoFar}
+use Rattle.flow_tally.proofs.input.read_files.Given as goal
+
+abbrev pub invariant-loop-name : goal.invariant-loop-name
+invariant-loop-name g l = let F = g.F.Feed in record {
+  read : SoFar (F.files l.fn.feed) (map string_bytes l.files) l.name-index l.left l.tallied;
+  number : l.file ≡ l.name-index;
+  records : l.tallied.records + l.left ≤ most_bytes;
+  datagrams : l.tallied.datagrams + l.left ≤ most_bytes;
+  files : F.files l.feed ≡ F.files l.fn.feed;
+  later : F.faults l.fn.feed ≤ F.faults l.feed;
+}

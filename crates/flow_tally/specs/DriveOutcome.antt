@@ -1,0 +1,64 @@
+-- What the file of a drive determines, and what each status says of a run of one.
+use Rattle.std.specs.Prelude.{◌≡◌, ℕ, ◌<◌, ◌≤◌, List, [], ◌∷◌, length, take, Option, Some, MatchOption, Result, Ok, Err, Vec}
+use Rattle.std.specs.declared.alloc.Global.{Global}
+use Rattle.wire_ports.specs.Bytes.{Appends}
+use Rattle.wire_ports.specs.Ports.{Names, HasRisen}
+use Rattle.seat_history.specs.declared.entry.Entry.{Entry}
+use Rattle.call_script.specs.Cut.{lines_of}
+use Rattle.call_script.specs.Script.{Good, ReadAs, bad_reading}
+use Rattle.call_script.specs.Text.{driven_text}
+use Rattle.call_script.specs.declared.bad_script.BadScript.{BadScript as ScriptFault}
+use Rattle.call_script.specs.declared.driven.Driven.{Driven}
+use Rattle.flow_tally.specs.Input.{most_bytes, FeedShown, IsBytesOf, IsFirstTooLarge, RefusesFiles}
+use Rattle.flow_tally.specs.OutShown.{OutShown, IsUntouched}
+use Rattle.flow_tally.specs.ScriptRun.{IsRun}
+use Rattle.flow_tally.specs.Words.{Drive}
+use Rattle.flow_tally.specs.declared.status.Status.{Status}
+use Rattle.flow_tally.specs.declared.status.Status.TheVariants.{Done, WriteFault, BadDatagram, InputTooLarge, BadScript, NoMemory}
+
+-- the bytes are within the limit and read as a script of these calls
+pub record IsScriptOf (bytes : List ℕ) (callers : ℕ) (entries : List Entry) : Type 0 where
+  pub within : length bytes ≤ most_bytes
+  pub reads : ReadAs (lines_of bytes) (Good callers entries)
+
+-- the text is what comes of the file's script
+abbrev pub IsDriven : Drive → Option Names → List ℕ → Type 0
+IsDriven drive names text = (bytes : List ℕ) × (callers : ℕ) × (entries : List Entry) × (driven : Driven)
+    × IsBytesOf names drive.file bytes × IsScriptOf bytes callers entries × IsRun entries driven × (text ≡ driven_text driven)
+
+-- the bytes are within the limit and have this first bad line, or one line too many
+pub record IsFaultOf (bytes : List ℕ) (fault : ScriptFault) : Type 0 where
+  pub within : length bytes ≤ most_bytes
+  pub reads : MatchOption (bad_reading fault) ⊥ (λ reading. ReadAs (lines_of bytes) reading)
+
+-- the file is no script
+abbrev pub HasFault : Drive → Option Names → ScriptFault → Type 0
+HasFault drive names fault = (bytes : List ℕ) × IsBytesOf names drive.file bytes × IsFaultOf bytes fault
+
+-- what a file's bytes give: what comes of their script, or why there is none
+abbrev pub GivesScriptText : List ℕ → Result (Vec ℕ Global) Status → Type 0
+GivesScriptText bytes (Ok text) = (callers : ℕ) × (entries : List Entry) × (driven : Driven)
+    × ReadAs (lines_of bytes) (Good callers entries) × IsRun entries driven × (text.items ≡ driven_text driven)
+GivesScriptText bytes (Err (BadScript fault)) = MatchOption (bad_reading fault) ⊥ (λ reading. ReadAs (lines_of bytes) reading)
+GivesScriptText bytes (Err NoMemory) = Unit {0}
+GivesScriptText bytes (Err _) = ⊥
+
+-- why a drive has no text; nothing says when memory runs out
+abbrev pub RefusesDrive : Drive → FeedShown → Status → Type 0
+RefusesDrive drive feed (BadScript fault) = HasFault drive feed.names fault
+RefusesDrive drive feed (BadDatagram file offset cause) = ⊥
+RefusesDrive drive feed status = RefusesFiles (drive.file ∷ []) feed status
+
+-- what a status says of a run of a drive
+abbrev pub DriveSays : Drive → FeedShown → OutShown → Status → Type 0
+DriveSays drive feed out Done = (text : List ℕ) × IsDriven drive feed.names text × Appends out.taken_before text out.taken_after
+DriveSays drive feed out (WriteFault written) = HasRisen out.before out.after
+    × (text : List ℕ) × IsDriven drive feed.names text × (written < length text) × Appends out.taken_before (take written text) out.taken_after
+DriveSays drive feed out status = RefusesDrive drive feed status × IsUntouched out
+
+-- what the files under these names determine of a drive
+abbrev pub DeterminesDrive : Drive → Names → Status → Type 0
+DeterminesDrive drive names Done = (text : List ℕ) × IsDriven drive (Some names) text
+DeterminesDrive drive names (InputTooLarge file) = IsFirstTooLarge (Some names) (drive.file ∷ []) file
+DeterminesDrive drive names (BadScript fault) = HasFault drive (Some names) fault
+DeterminesDrive drive names _ = ⊥

@@ -1,0 +1,12 @@
+pub mod DriveOutcome
+pub mod Input
+pub mod Message
+pub mod Numbers
+pub mod OutShown
+pub mod Outcome
+pub mod Reading
+pub mod ScriptRun
+pub mod Status
+pub mod Tallied
+pub mod Telling
+pub mod Words

@@ -1,0 +1,110 @@
+-- What the words and the files determine, and what each status says of a run.
+use Rattle.std.specs.Prelude.{◌≡◌, ℕ, ◌+◌, ◌*◌, ◌^◌, ◌<◌, ◌≤◌, List, length, take, Option, Some, None, Result, Ok, Err, Vec}
+use Rattle.std.specs.declared.alloc.Global.{Global}
+use Rattle.wire_ports.specs.Bytes.{Appends}
+use Rattle.wire_ports.specs.Ports.{Names, HasRisen}
+use Rattle.netflow_five.specs.File.{joined, IsFile, all_records}
+use Rattle.flow_fold.specs.Flows.{Flows, HasRisingKeys, value_in}
+use Rattle.flow_fold.specs.Fold.{IsFold}
+use Rattle.flow_fold.specs.Pair.{pairs_of}
+use Rattle.flow_report.specs.Text.{report_text}
+use Rattle.flow_report.specs.declared.totals.Totals.{Totals}
+use Rattle.flow_tally.specs.Input.{AreContents, AreGood, FeedShown, IsFirstTooLarge, IsFirstBad, RefusesFiles}
+use Rattle.flow_tally.specs.DriveOutcome.{DriveSays, DeterminesDrive}
+use Rattle.flow_tally.specs.OutShown.{OutShown, IsUntouched}
+use Rattle.flow_tally.specs.Words.{Tally, Command, OfTally, OfDrive}
+use Rattle.flow_tally.specs.declared.status.Status.{Status}
+use Rattle.flow_tally.specs.declared.status.Status.TheVariants.{Done, Usage, OpenFault, ReadFault, WriteFault, BadDatagram, TooManyFlows, InputTooLarge, NoMemory, PlanTooLarge}
+
+-- the nodes that a table for the tally has: a share of 2F + 4W + 1 for each of W workers, and one for each bucket
+abbrev pub nodes_of : Tally → ℕ
+nodes_of tally = tally.workers * (2 * tally.flows + 4 * tally.workers + 1) + tally.buckets
+
+-- the most nodes of a table
+abbrev pub most_nodes : ℕ
+most_nodes = 2 ^ 24
+
+-- the files are good and joined they are these datagrams, whose records have these flows, by rising key
+pub record IsTally (contents ds : List (List ℕ)) (flows : Flows) : Type 0 where
+  pub good : AreGood contents
+  pub file : IsFile (joined contents) ds
+  pub rising : HasRisingKeys flows
+  pub fold : IsFold (pairs_of (all_records ds)) (value_in flows)
+
+-- how many records and datagrams there are
+abbrev pub totals_of : List (List ℕ) → Totals
+totals_of ds = record { records = length (all_records ds); datagrams = length ds }
+
+-- what the text of a tally says of its files, or why there is none
+abbrev pub GivesText : List (List ℕ) → List (List ℕ) → ℕ → Result (Vec ℕ Global) Status → Type 0
+GivesText contents ds limit (Ok text) = (flows : Flows) × IsTally contents ds flows × (length flows ≤ limit) × (text.items ≡ report_text flows (totals_of ds))
+GivesText contents ds limit (Err (TooManyFlows most)) = (flows : Flows) × IsTally contents ds flows × (most ≡ limit) × (limit < length flows)
+GivesText contents ds limit (Err NoMemory) = Unit {0}
+GivesText contents ds limit (Err _) = ⊥
+
+-- the text is the report of the files, which have no more flows than the tally may have
+abbrev pub IsReport : Tally → Option Names → List ℕ → Type 0
+IsReport tally names text = (contents : List (List ℕ)) × (ds : List (List ℕ)) × (flows : Flows)
+    × AreContents names tally.files contents × IsTally contents ds flows × (length flows ≤ tally.flows) × (text ≡ report_text flows (totals_of ds))
+
+-- the files have more flows than the tally may have
+abbrev pub HasTooManyFlows : Tally → Option Names → Type 0
+HasTooManyFlows tally names = (contents : List (List ℕ)) × (ds : List (List ℕ)) × (flows : Flows)
+    × AreContents names tally.files contents × IsTally contents ds flows × (tally.flows < length flows)
+
+-- why a tally has no report; nothing says when memory runs out
+abbrev pub Refuses : Tally → FeedShown → Status → Type 0
+Refuses tally feed (PlanTooLarge nodes) = (nodes ≡ nodes_of tally) × (most_nodes < nodes)
+Refuses tally feed (TooManyFlows limit) = (nodes_of tally ≤ most_nodes) × (limit ≡ tally.flows) × HasTooManyFlows tally feed.names
+Refuses tally feed NoMemory = Unit {0}
+Refuses tally feed status = (nodes_of tally ≤ most_nodes) × RefusesFiles tally.files feed status
+
+-- what a status says of a run of a tally
+abbrev pub TallySays : Tally → FeedShown → OutShown → Status → Type 0
+TallySays tally feed out Done = (nodes_of tally ≤ most_nodes)
+    × (text : List ℕ) × IsReport tally feed.names text × Appends out.taken_before text out.taken_after
+TallySays tally feed out (WriteFault written) = (nodes_of tally ≤ most_nodes) × HasRisen out.before out.after
+    × (text : List ℕ) × IsReport tally feed.names text × (written < length text) × Appends out.taken_before (take written text) out.taken_after
+TallySays tally feed out status = Refuses tally feed status × IsUntouched out
+
+-- what a status says of a run whose words fit no command
+abbrev pub NothingSays : OutShown → Status → Type 0
+NothingSays out Usage = IsUntouched out
+NothingSays out NoMemory = IsUntouched out
+NothingSays out _ = ⊥
+
+-- what a status says of a run with these words
+abbrev pub Says : Option Command → FeedShown → OutShown → Status → Type 0
+Says None feed out status = NothingSays out status
+Says (Some (OfTally tally)) feed out status = TallySays tally feed out status
+Says (Some (OfDrive drive)) feed out status = DriveSays drive feed out status
+
+-- what the files under these names determine of a tally
+abbrev pub DeterminesTally : Tally → Names → Status → Type 0
+DeterminesTally tally names Done = (nodes_of tally ≤ most_nodes) × (text : List ℕ) × IsReport tally (Some names) text
+DeterminesTally tally names (PlanTooLarge nodes) = (nodes ≡ nodes_of tally) × (most_nodes < nodes)
+DeterminesTally tally names (TooManyFlows limit) = (nodes_of tally ≤ most_nodes) × (limit ≡ tally.flows) × HasTooManyFlows tally (Some names)
+DeterminesTally tally names (InputTooLarge file) = (nodes_of tally ≤ most_nodes) × IsFirstTooLarge (Some names) tally.files file
+DeterminesTally tally names (BadDatagram file offset cause) = (nodes_of tally ≤ most_nodes) × IsFirstBad (Some names) tally.files file offset cause
+DeterminesTally tally names _ = ⊥
+
+-- the words, and the files under these names, determine this status; devices and memory aside
+abbrev pub Determines : Option Command → Names → Status → Type 0
+Determines None names Usage = Unit {0}
+Determines None names _ = ⊥
+Determines (Some (OfTally tally)) names status = DeterminesTally tally names status
+Determines (Some (OfDrive drive)) names status = DeterminesDrive drive names status
+
+-- the words ask for a tally, and the text is the report of its files under these names
+abbrev pub IsReportOf : Option Command → Names → List ℕ → Type 0
+IsReportOf None names text = ⊥
+IsReportOf (Some (OfTally tally)) names text = IsReport tally (Some names) text
+IsReportOf (Some (OfDrive drive)) names text = ⊥
+
+-- but for a feed that failed and for want of memory, it is the status that words and files determine; where the output failed, that is Done
+abbrev pub IsDecided : Option Command → Names → Status → Type 0
+IsDecided asked names (OpenFault file) = Unit {0}
+IsDecided asked names (ReadFault file) = Unit {0}
+IsDecided asked names (WriteFault written) = Determines asked names Done
+IsDecided asked names NoMemory = Unit {0}
+IsDecided asked names status = Determines asked names status

@@ -1,0 +1,60 @@
+ghost use Rattle.std.specs.Prelude.{◌≡◌, ◌≤◌, List, ℕ, IfOk, MatchResult};
+ghost use Rattle.flow_tally.specs.DriveOutcome.{DriveSays, IsDriven, RefusesDrive, GivesScriptText};
+ghost use Rattle.flow_tally.specs.Input.{FeedShown};
+ghost use Rattle.flow_tally.specs.Words.{drive_in};
+
+use crate::drive_words::DriveWords;
+use crate::input::{MOST_BYTES, read_file};
+use crate::output::write_output;
+use crate::script_run::run_script;
+use crate::status::Status;
+use call_script::{BadScript, read_script, write_replies};
+use std::alloc::Global;
+use wire_ports::{Feed, Sink};
+
+/// What comes of the script that the bytes are, as text.
+fn script_text(alloc: Global, bytes: &[u8]) -> Result<Vec<u8>, Status>
+    ensures { GivesScriptText bytes.now result }
+{
+    let script = match read_script(alloc, bytes) {
+        Ok(script) => script,
+        Err(BadScript::NoMemory) => return Err(Status::NoMemory),
+        Err(cause) => return Err(Status::BadScript { cause }),
+    };
+    let Ok(driven) = run_script(alloc, &script) else {
+        return Err(Status::NoMemory);
+    };
+    match write_replies(alloc, &driven) {
+        Ok(text) => Ok(text),
+        Err(_) => Err(Status::NoMemory),
+    }
+}
+
+/// What comes of the file's script, as text.
+fn drive_text<F: Feed>(alloc: Global, words: &DriveWords, feed: &mut F) -> Result<Vec<u8>, Status>
+    ensures text { MatchResult result (λ text. IsDriven (drive_in words.now) (F.files feed.old) text.items)
+        (RefusesDrive (drive_in words.now) (record { names = F.files feed.old; before = F.faults feed.old; after = F.faults feed.new; failed = F.failed feed.new })) }
+{
+    match read_file(alloc, feed, 1, words.file.as_str(), MOST_BYTES) {
+        Ok(bytes) => script_text(alloc, &bytes),
+        Err(status) => Err(status),
+    }
+}
+
+/// Runs the file's script, and writes what comes of it once it is whole.
+pub fn drive<F: Feed, O: Sink>(
+    alloc: Global,
+    words: &DriveWords,
+    feed: &mut F,
+    out: &mut O,
+) -> Status
+    ensures { DriveSays (drive_in words.now)
+        (record { names = F.files feed.old; before = F.faults feed.old; after = F.faults feed.new; failed = F.failed feed.new })
+        (record { before = O.faults out.old; after = O.faults out.new; taken_before = O.taken out.old; taken_after = O.taken out.new })
+        result }
+{
+    match drive_text(alloc, words, feed) {
+        Ok(text) => write_output(out, &text),
+        Err(status) => status,
+    }
+}

@@ -1,0 +1,98 @@
+ghost use Rattle.std.specs.Prelude.{◌≡◌, ◌+◌, ◌<◌, ◌≤◌, ◌^◌, map, IfOk, MatchResult};
+ghost use Rattle.std.specs.String.{string_bytes};
+ghost use Rattle.flow_tally.specs.Input.{FeedShown, RefusesFiles};
+ghost use Rattle.flow_tally.specs.Reading.{Reads, AddsFile, HasRead, IsStatusOf};
+
+use crate::status::Status;
+use crate::tallied::Tallied;
+use netflow_five::Refused;
+use std::alloc::Global;
+use wire_ports::{Feed, ReadEnd, read_whole};
+
+/// The most bytes of all files together.
+pub(crate) const MOST_BYTES: usize = 1 << 28;
+
+/// The bytes of a file, of which there may be at most `most`.
+pub(crate) fn read_file<F: Feed>(
+    alloc: Global,
+    feed: &mut F,
+    file: u32,
+    name: &str,
+    most: usize,
+) -> Result<Vec<u8>, Status>
+    ensures read { Reads most (F.files feed.old) name.now (F.faults feed.old) (F.faults feed.new) (F.failed feed.new) file result }
+    ensures files { F.files feed.new ≡ F.files feed.old }
+    ensures later { F.faults feed.old ≤ F.faults feed.new }
+{
+    if feed.start(file, name).is_err() {
+        return Err(Status::OpenFault { file });
+    }
+    match read_whole(alloc, feed, most) {
+        Ok(bytes) => Ok(bytes),
+        Err(ReadEnd::Failed) => Err(Status::ReadFault { file }),
+        Err(ReadEnd::TooLarge) => Err(Status::InputTooLarge { file }),
+        Err(ReadEnd::NoMemory) => Err(Status::NoMemory),
+    }
+}
+
+/// A file's refusal as a status.
+fn refused_file(file: u32, refused: Refused) -> Status
+    ensures { IsStatusOf file refused result }
+{
+    match refused {
+        Refused::Malformed { offset, cause } => Status::BadDatagram {
+            file,
+            offset,
+            cause,
+        },
+        Refused::NoMemory => Status::NoMemory,
+    }
+}
+
+/// Reads a file of at most `most` bytes, adds it to the tally, and tells how many bytes it has.
+fn add_file<F: Feed>(
+    alloc: Global,
+    feed: &mut F,
+    tallied: &mut Tallied,
+    file: u32,
+    name: &str,
+    most: usize,
+) -> Result<usize, Status>
+    requires records { tallied.old.records + most < 2 ^ 64 }
+    requires datagrams { tallied.old.datagrams + most < 2 ^ 64 }
+    ensures file { AddsFile most (F.files feed.old) name.now (F.faults feed.old) (F.faults feed.new) (F.failed feed.new) file tallied.old tallied.new result }
+    ensures records { IfOk result (λ n. tallied.new.records ≤ tallied.old.records + n) }
+    ensures datagrams { IfOk result (λ n. tallied.new.datagrams ≤ tallied.old.datagrams + n) }
+    ensures files { F.files feed.new ≡ F.files feed.old }
+    ensures later { F.faults feed.old ≤ F.faults feed.new }
+{
+    let bytes = read_file(alloc, feed, file, name, most)?;
+    match tallied.add_file(&bytes) {
+        Ok(()) => Ok(bytes.len()),
+        Err(refused) => Err(refused_file(file, refused)),
+    }
+}
+
+/// Reads the files in order and tallies them.
+pub fn read_files<F: Feed>(alloc: Global, feed: &mut F, files: &[String]) -> Result<Tallied, Status>
+    ensures read { MatchResult result (HasRead (F.files feed.old) (map string_bytes files.now))
+        (RefusesFiles (map string_bytes files.now) (record { names = F.files feed.old; before = F.faults feed.old; after = F.faults feed.new; failed = F.failed feed.new })) }
+    ensures files { F.files feed.new ≡ F.files feed.old }
+    ensures later { F.faults feed.old ≤ F.faults feed.new }
+{
+    let mut tallied = Tallied::new(alloc);
+    let mut left = MOST_BYTES;
+    let mut file: u32 = 0;
+    for name in files {
+        // There is no memory for so many words that their numbers end.
+        file = match file.checked_add(1) {
+            Some(next) => next,
+            None => return Err(Status::NoMemory),
+        };
+        match add_file(alloc, feed, &mut tallied, file, name.as_str(), left) {
+            Ok(n) => left -= n,
+            Err(status) => return Err(status),
+        }
+    }
+    Ok(tallied)
+}

@@ -1,0 +1,16 @@
+ghost use Rattle.flow_tally.specs.OutShown.{OutShown, Took};
+
+use crate::status::Status;
+use wire_ports::{Sink, put_all};
+
+/// Writes the whole output, and tells how that ended.
+pub(crate) fn write_output<O: Sink>(out: &mut O, text: &[u8]) -> Status
+    ensures { Took text.now (record { before = O.faults out.old; after = O.faults out.new; taken_before = O.taken out.old; taken_after = O.taken out.new }) result }
+{
+    match put_all(out, text) {
+        Ok(()) => Status::Done,
+        Err(failed) => Status::WriteFault {
+            written: failed.written,
+        },
+    }
+}

@@ -1,0 +1,21 @@
+ghost use Rattle.std.specs.Prelude.{◌≤◌};
+
+/// The most workers.
+pub(crate) const MOST_WORKERS: u32 = 64;
+
+/// The most flows, and the most buckets.
+pub(crate) const MOST_FLOWS: u32 = 1 << 20;
+
+/// What the words of a tally ask for.
+#[derive(Debug, Drop)]
+pub struct TallyWords {
+    pub workers: u32,
+    /// The most flows that it may have.
+    pub flows: u32,
+    pub buckets: u32,
+    /// The names of the files, in the order in which they are read.
+    pub files: Vec<String>,
+    ghost few_workers: { workers ≤ 64 },
+    ghost few_flows: { flows ≤ 1048576 },
+    ghost few_buckets: { buckets ≤ 1048576 },
+}

@@ -1,0 +1,55 @@
+ghost use Rattle.std.specs.Prelude.{◌≡◌, ◌⊎◌, List, ℕ, Some, map};
+ghost use Rattle.std.specs.String.{string_bytes};
+ghost use Rattle.flow_tally.specs.Message.{message_of};
+ghost use Rattle.flow_tally.specs.Outcome.{Says, Determines, IsDecided, IsReportOf};
+ghost use Rattle.flow_tally.specs.Telling.{Tells};
+ghost use Rattle.flow_tally.specs.Words.{words_asked};
+ghost use Rattle.wire_ports.specs.Bytes.{Appends};
+ghost use Rattle.wire_ports.specs.Ports.{Names, HasRisen};
+
+use crate::drive::drive;
+use crate::message::tell;
+use crate::status::Status;
+use crate::tally::tally;
+use crate::words::{Asked, read_words};
+use std::alloc::Global;
+use wire_ports::{Feed, Sink};
+
+/// Does what the words ask for.
+fn answer<F: Feed, O: Sink>(alloc: Global, words: &[String], feed: &mut F, out: &mut O) -> Status
+    ensures { Says (words_asked (map string_bytes words.now))
+        (record { names = F.files feed.old; before = F.faults feed.old; after = F.faults feed.new; failed = F.failed feed.new })
+        (record { before = O.faults out.old; after = O.faults out.new; taken_before = O.taken out.old; taken_after = O.taken out.new })
+        result }
+{
+    match read_words(alloc, words) {
+        Asked::Tally(words) => tally(alloc, &words, feed, out),
+        Asked::Drive(words) => drive(alloc, &words, feed, out),
+        Asked::Usage => Status::Usage,
+        Asked::NoMemory => Status::NoMemory,
+    }
+}
+
+/// A run of the program: does what the words after its name ask for, and tells how it ended.
+pub fn run<F: Feed, O: Sink, E: Sink>(
+    alloc: Global,
+    words: &[String],
+    feed: &mut F,
+    out: &mut O,
+    err: &mut E,
+) -> Status
+    ensures status { Says (words_asked (map string_bytes words.now))
+        (record { names = F.files feed.old; before = F.faults feed.old; after = F.faults feed.new; failed = F.failed feed.new })
+        (record { before = O.faults out.old; after = O.faults out.new; taken_before = O.taken out.old; taken_after = O.taken out.new })
+        result }
+    ensures determined { (names : Names) → F.files feed.old ≡ Some names → IsDecided (words_asked (map string_bytes words.now)) names result }
+    ensures complete { (names : Names) (status : Status) → F.files feed.old ≡ Some names → Determines (words_asked (map string_bytes words.now)) names status
+        → ¬ HasRisen (F.faults feed.old) (F.faults feed.new) → ¬ HasRisen (O.faults out.old) (O.faults out.new)
+        → (result ≡ status) ⊎ (result ≡ Status.NoMemory) }
+    ensures report { (names : Names) (text : List ℕ) → F.files feed.old ≡ Some names → IsReportOf (words_asked (map string_bytes words.now)) names text
+        → result ≡ Status.Done → Appends (O.taken out.old) text (O.taken out.new) }
+    ensures message { Tells (message_of result) (E.taken err.old) (E.taken err.new) (E.faults err.old) (E.faults err.new) }
+{
+    let status = answer(alloc, words, feed, out);
+    tell(alloc, err, status)
+}
