@@ -1,0 +1,5 @@
+pub mod Backup
+pub mod Claiming
+pub mod Exchange
+pub mod Node
+pub mod Standing

@@ -1,0 +1,52 @@
+-- Looks at a cell's backup, and exchanges of it.
+use Rattle.std.specs.Prelude.{◌≡◌, ◌≢◌, ℕ, ◌/◌, ◌<◌, true, List, [], ◌∷◌, ◌++◌, Some, drop}
+use mathlib.Core.Option.{some}
+use lib.ListN.{get_elem?}
+use Rattle.seat_history.specs.Change.{is_change}
+use Rattle.seat_history.specs.History.{state_at}
+use Rattle.seat_history.specs.Step.{contents_after}
+use Rattle.seat_history.specs.declared.call.Call.{Call}
+use Rattle.seat_history.specs.declared.entry.Entry.{Entry}
+use Rattle.step_rules.specs.Claims.{BACK, OWN, On, Tells}
+use Rattle.step_rules.specs.History.{IsWide, NoneOn, cell_of}
+use Rattle.step_rules.specs.Views.{looked_view, won_view, words_in}
+use Rattle.step_rules.specs.World.{has, nodes_of}
+use Rattle.step_rules.specs.declared.view.Claim.{Claim}
+use Rattle.step_rules.specs.declared.view.Kind.{Kind}
+use Rattle.step_rules.specs.declared.view.Look.{Look}
+use Rattle.step_rules.specs.declared.view.View.{View}
+
+-- the word x was found in the cell k, the history being log. Where the last look at this cell found another word, there is an entry on the
+-- cell since; where a claim on Back or Hold stands on the node found, of this cell, there is none
+pub record Looks (kind : Kind) (k x : ℕ) (v w : View) : Type 0 where
+  pub log : List Entry
+  pub after : w ≡ looked_view kind k x log v
+  pub rest : List Entry
+  pub seen : log ≡ v.seen ++ rest
+  pub moved : (l : Look) → v.look ≡ Some l → l.cell ≡ k → x ≢ l.word → ¬ NoneOn v.plan k (drop l.at log)
+  pub calm : (c n : ℕ) (y : Claim) → get_elem? v.claims c ≡ some y → Tells c → On y n → y.cell ≡ k → x / 2 ≡ n → NoneOn v.plan k (drop y.at log)
+
+-- what an exchange of the cell k from the word x to the own node n asks of its seat, for a call: its Back claim stands on the node of x, and
+-- its Own claim on n
+pub record MayExchange (k x n : ℕ) (call : Call) (v : View) : Type 0 where
+  pub back : Claim
+  pub claimed : get_elem? v.claims BACK ≡ some back
+  pub stands : On back (x / 2)
+  pub cell : back.cell ≡ k
+  pub mine : Claim
+  pub announced : get_elem? v.claims OWN ≡ some mine
+  pub guarded : On mine n
+  pub on : cell_of v.plan call ≡ k
+  pub changes : is_change (state_at v.seen back.at) call ≡ true
+  pub wide : IsWide call
+  pub own : has (nodes_of v.own) n ≡ true
+  pub words : words_in v.own n ≡ (contents_after (state_at v.seen back.at) call).registers k ++ 0 ∷ []
+  pub left : 0 < v.changes
+
+-- the exchange won: the register was what it was where the Back claim began to stand
+pub record Wins (k x n : ℕ) (call : Call) (v w : View) : Type 0 where
+  pub log : List Entry
+  pub after : w ≡ won_view k x n call log v
+  pub rest : List Entry
+  pub seen : log ≡ v.seen ++ rest
+  pub calm : (y : Claim) → get_elem? v.claims BACK ≡ some y → NoneOn v.plan k (drop y.at log)

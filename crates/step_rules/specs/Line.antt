@@ -1,0 +1,53 @@
+-- All callers' stands in one line, and the object of one thread called in that order.
+use Rattle.std.specs.Prelude.{◌≡◌, ℕ, ◌<◌, ◌==◌, ◌&&◌, not, zero, suc, List, [], ◌∷◌, ◌++◌, length, filter, ⊤, if◌then◌else◌}
+use Rattle.seat_history.specs.History.{state_at}
+use Rattle.seat_history.specs.Object.{Object, blank_object, object_after}
+use Rattle.seat_history.specs.declared.entry.Entry.{Entry}
+use Rattle.step_rules.specs.Lawful.{IsReply, entry_of, is_full}
+use Rattle.step_rules.specs.declared.view.Stand.{Stand}
+
+-- a caller's stands
+abbrev pub stands_by : ℕ → List Stand → List Stand
+stands_by x stands = filter (λ (s : Stand). s.by == x) stands
+
+-- a caller's stands at a place that are no entries
+abbrev pub readings : ℕ → ℕ → List Stand → List Stand
+readings q x stands = filter (λ (s : Stand). not s.changes && ((s.by == x) && (s.place == q))) stands
+
+-- those of the first n callers, by rising number
+abbrev pub readings_below : ℕ → ℕ → List Stand → List Stand
+readings_below q zero stands = []
+readings_below q (suc n) stands = readings_below q n stands ++ readings q n stands
+
+-- the stand that is the entry at a place
+abbrev pub entry_at : ℕ → List Stand → List Stand
+entry_at q stands = filter (λ (s : Stand). s.changes && (s.place == q)) stands
+
+-- the stands before a place of the history, seats being the number of callers
+abbrev pub line_before : ℕ → ℕ → List Stand → List Stand
+line_before seats zero stands = []
+line_before seats (suc q) stands = line_before seats q stands ++ (readings_below q seats stands ++ entry_at q stands)
+
+-- the history with each stand that is no entry put before the entry at its place, or at the end
+abbrev pub line_of : ℕ → List Entry → List Stand → List Stand
+line_of seats history stands = line_before seats (length history) stands ++ readings_below (length history) seats stands
+
+-- what a stand leaves: Full changes nothing
+abbrev pub after_stand : Object → Stand → Object
+after_stand object s = if is_full s.reply then object else object_after object (entry_of s)
+
+abbrev pub after_stands : Object → List Stand → Object
+after_stands object [] = object
+after_stands object (s ∷ r) = after_stands (after_stand object s) r
+
+-- the object of one thread, called in this order, gives each its reply, and Full comes only where the call would change it
+abbrev pub Replays : ℕ → Object → List Stand → Type 0
+Replays seats object [] = ⊤
+Replays seats object (s ∷ r) = IsReply seats s.stock object.contents (object.held s.by) s.call s.reply × Replays seats (after_stand object s) r
+
+-- the line is one history of the object of one thread; it has each caller's stands, each once, in the caller's order, and leaves what the
+-- history leaves
+pub record InOneLine (seats : ℕ) (history : List Entry) (stands : List Stand) : Type 0 where
+  pub replays : Replays seats blank_object (line_of seats history stands)
+  pub order : (x : ℕ) → x < seats → stands_by x (line_of seats history stands) ≡ stands_by x stands
+  pub contents : (after_stands blank_object (line_of seats history stands)).contents ≡ state_at history (length history)

@@ -1,0 +1,62 @@
+-- What the steps tell.
+use Rattle.std.specs.Prelude.{◌≡◌, ◌≢◌, ℕ, ◌+◌, ◌*◌, ◌<◌, suc}
+use Rattle.atomic_table.specs.Table.{Me, Step}
+use Rattle.seat_history.specs.declared.call.Call.{Call}
+use Rattle.seat_history.specs.declared.reply.Reply.{Reply}
+use Rattle.step_rules.specs.Kinds.Backup.{Looks, Wins}
+use Rattle.step_rules.specs.Kinds.Claiming.{FindsOwn, Frees, Rechecks}
+use Rattle.step_rules.specs.Kinds.Node.{Reads}
+use Rattle.step_rules.specs.Layout.{backup_at, claim_at, node_at}
+use Rattle.step_rules.specs.Sound.{Sound}
+use Rattle.step_rules.specs.Views.{announced_view, cleared_view, number, scanned_view, loaded_view, stood_view, stored_view}
+use Rattle.step_rules.specs.declared.layout.TheConstants.{CLAIMS, NODE_WIDTH}
+use Rattle.step_rules.specs.declared.view.Kind.TheVariants.{BackupLoad, BackupExchange}
+use Rattle.step_rules.specs.declared.view.View.{View}
+
+abbrev pub Mine : Type 0
+Mine = Me Call View
+
+-- each step leaves a sound view, and takes no slot
+abbrev pub Told : Mine → Mine → Type 0 → Type 0
+Told m m' fact = (m'.1 ≡ m.1) × Sound m'.0 × fact
+
+-- NODE STORE
+abbrev pub stored : Step Call → Mine → ℕ → Mine → Type 0
+stored st m x m' = Told m m' ((n j : ℕ) → st.word ≡ node_at m.0.plan n j → j < NODE_WIDTH → m'.0 ≡ stored_view n j x m.0)
+
+-- NODE LOAD
+abbrev pub loaded : Step Call → Mine → ℕ → Mine → Type 0
+loaded st m x m' = Told m m' ((n j : ℕ) → st.word ≡ node_at m.0.plan n j → j < NODE_WIDTH → (m'.0 ≡ loaded_view n j x m.0) × Reads n j x m.0)
+
+-- BACKUP LOAD
+abbrev pub looked : Step Call → Mine → ℕ → Mine → Type 0
+looked st m x m' = Told m m' ((k : ℕ) → st.word ≡ backup_at m.0.plan k → Looks (BackupLoad k) k x m.0 m'.0)
+
+-- BACKUP EXCHANGE, for the call
+abbrev pub exchanged : Call → Step Call → Mine → ℕ → Mine → Type 0
+exchanged call st m x m' = Told m m' ((k n : ℕ) → st.word ≡ backup_at m.0.plan k → st.second ≡ 2 * n + 1
+    → (x ≡ st.first → Wins k st.first n call m.0 m'.0) × (x ≢ st.first → Looks (BackupExchange k st.first n) k x m.0 m'.0))
+
+-- CLAIM STORE; the number stored is the node's and 1
+abbrev pub announced : Step Call → Mine → ℕ → Mine → Type 0
+announced st m x m' = Told m m' ((c n : ℕ) → st.word ≡ claim_at (number m.0) c → c < CLAIMS → x ≡ n + 1 → m'.0 ≡ announced_view c n m.0)
+
+-- RECHECK of the claim c, which was announced for the node of the word y
+abbrev pub rechecked : ℕ → ℕ → Step Call → Mine → ℕ → Mine → Type 0
+rechecked c y st m x m' = Told m m' ((k : ℕ) → st.word ≡ backup_at m.0.plan k → Rechecks c k y x m.0 m'.0)
+
+-- CLAIM CLEAR
+abbrev pub cleared : Step Call → Mine → ℕ → Mine → Type 0
+cleared st m x m' = Told m m' ((c : ℕ) → st.word ≡ claim_at (number m.0) c → c < CLAIMS → m'.0 ≡ cleared_view c m.0)
+
+-- SCAN LOAD; the last one frees
+abbrev pub scanned : Step Call → Mine → ℕ → Mine → Type 0
+scanned st m x m' = Told m m' (FindsOwn st.word x m.0 × (suc st.word < CLAIMS * m.0.plan.seats → m'.0 ≡ scanned_view st.word x m.0) × (suc st.word ≡ CLAIMS * m.0.plan.seats → Frees st.word x m.0 m'.0))
+
+-- STAND
+abbrev pub stood : ℕ → Call → Reply → Step Call → Mine → ℕ → Mine → Type 0
+stood q call reply st m x m' = Told m m' (m'.0 ≡ stood_view q call reply m.0)
+
+-- a load that changes nothing
+abbrev pub settled : Step Call → Mine → ℕ → Mine → Type 0
+settled st m x m' = Told m m' (m'.0 ≡ m.0)

@@ -1,0 +1,232 @@
+-- What each step makes of its seat's view.
+use Rattle.std.specs.Prelude.{ℕ, ◌+◌, ◌*◌, ◌-◌, ◌/◌, ◌==◌, Bool, true, false, not, ◌&&◌, suc, zero, List, [], ◌∷◌, ◌++◌, Some, None, length, map, filter, take, drop, slice_index, slice_index_or, slice_set, replicate, nat_lt, if◌then◌else◌}
+use Rattle.seat_history.specs.History.{state_at}
+use Rattle.seat_history.specs.Step.{reply_to}
+use Rattle.seat_history.specs.declared.call.Call.{Call}
+use Rattle.seat_history.specs.declared.entry.Entry.{Entry}
+use Rattle.seat_history.specs.declared.reply.Reply.{Reply}
+use Rattle.step_rules.specs.Layout.{cells}
+use Rattle.step_rules.specs.Lawful.{held_by}
+use Rattle.step_rules.specs.World.{has}
+use Rattle.step_rules.specs.declared.layout.TheConstants.{CLAIMS, NODE_WIDTH}
+use Rattle.step_rules.specs.declared.plan.Plan.{Plan}
+use Rattle.step_rules.specs.declared.view.Claim.{Claim}
+use Rattle.step_rules.specs.declared.view.Counted.{Counted}
+use Rattle.step_rules.specs.declared.view.Held.{Held}
+use Rattle.step_rules.specs.declared.view.Kind.{Kind}
+use Rattle.step_rules.specs.declared.view.Kind.TheVariants.{NodeStore, NodeLoad, BackupExchange, ClaimStore, Recheck, ClaimClear, ScanLoad}
+use Rattle.step_rules.specs.declared.view.Look.{Look}
+use Rattle.step_rules.specs.declared.view.Scan.{Scan}
+use Rattle.step_rules.specs.declared.view.Stand.{Stand}
+use Rattle.step_rules.specs.declared.view.View.{View}
+
+-- the least number that a seat holds, under which its calls stand
+abbrev pub number : View → ℕ
+number v = slice_index v.numbers 0
+
+-- how many nodes a seat has
+abbrev pub stock : View → ℕ
+stock v = length v.own + length v.retired
+
+abbrev pub counted : Kind → ℕ → ℕ → Counted
+counted kind x n = record { kind = kind; found = x; seen = n }
+
+abbrev pub entry : ℕ → Call → Entry
+entry x call = record { caller = x; call = call }
+
+-- NODE STORE: the word j of the own node n is x
+abbrev pub stored_in : ℕ → ℕ → ℕ → Held → Held
+stored_in n j x h = if h.node == n then record { node = h.node; words = slice_set h.words j x } else h
+
+abbrev pub stored_view : ℕ → ℕ → ℕ → View → View
+stored_view n j x v = record v { own = map (stored_in n j x) v.own; trail = v.trail ++ counted (NodeStore n j x) x (length v.seen) ∷ [] }
+
+-- NODE LOAD
+abbrev pub loaded_view : ℕ → ℕ → ℕ → View → View
+loaded_view n j x v = record v { trail = v.trail ++ counted (NodeLoad n j) x (length v.seen) ∷ [] }
+
+abbrev pub look_at : ℕ → ℕ → ℕ → Look
+look_at k x n = record { cell = k; word = x; at = n }
+
+-- BACKUP LOAD, and a BACKUP EXCHANGE that found another word: the word x was found in the cell k, and the history was this
+abbrev pub looked_view : Kind → ℕ → ℕ → List Entry → View → View
+looked_view kind k x log v = record v { seen = log; look = Some (look_at k x (length log)); trail = v.trail ++ counted kind x (length log) ∷ [] }
+
+-- the words of the own node n
+abbrev pub words_in : List Held → ℕ → List ℕ
+words_in [] n = []
+words_in (h ∷ r) n = if h.node == n then h.words else words_in r n
+
+abbrev pub without : ℕ → List Held → List Held
+without n own = filter (λ (h : Held). not (h.node == n)) own
+
+-- the stand of a call that changes, as the last entry of the history es
+abbrev pub changing : List Entry → Call → View → Stand
+changing log call v = record {
+  by = number v;
+  place = length log;
+  call = call;
+  reply = reply_to (state_at log (length log)) (held_by log (number v) v.stands) call;
+  changes = true;
+  stock = stock v;
+}
+
+-- BACKUP EXCHANGE that won: the history was log, and has the call more; the own node n is the cell's, and the node found is retired
+abbrev pub won_view : ℕ → ℕ → ℕ → Call → List Entry → View → View
+won_view k x n call log v = let es = log ++ entry (number v) call ∷ [] in record v {
+  seen = es;
+  stands = v.stands ++ changing log call v ∷ [];
+  own = without n v.own;
+  retired = v.retired ++ x / 2 ∷ [];
+  look = Some (look_at k (2 * n + 1) (length es));
+  changes = v.changes - 1;
+  trail = v.trail ++ counted (BackupExchange k x n) x (length es) ∷ [];
+  since = length v.trail + 1;
+}
+
+-- STAND: one more stand, which is no change
+abbrev pub reading : ℕ → Call → Reply → View → Stand
+reading q call reply v = record { by = number v; place = q; call = call; reply = reply; changes = false; stock = stock v }
+
+abbrev pub stood_view : ℕ → Call → Reply → View → View
+stood_view q call reply v = record v { stands = v.stands ++ reading q call reply v ∷ []; since = length v.trail }
+
+-- a claim word in which no claim stands
+abbrev pub silent : ℕ → Claim
+silent x = record { word = x; stands = false; image = []; cell = 0; pages = []; at = 0 }
+
+-- a claim on the node n with these words, found in the cell k after so many entries
+abbrev pub standing : ℕ → List ℕ → ℕ → ℕ → Claim
+standing n ws k at = record { word = n + 1; stands = true; image = ws; cell = k; pages = record { node = n; words = ws } ∷ []; at = at }
+
+abbrev pub claim_of : ℕ → View → Claim
+claim_of c v = slice_index_or v.claims c (silent 0)
+
+-- CLAIM STORE: the node n is announced; a claim on Own, of a node that the seat holds, stands at once
+abbrev pub announced : ℕ → ℕ → View → Claim
+announced c n v = if c == 2 then standing n (words_in v.own n) 0 0 else silent (n + 1)
+
+abbrev pub announced_view : ℕ → ℕ → View → View
+announced_view c n v = record v {
+  claims = slice_set v.claims c (announced c n v);
+  links = if c == 0 then [] else v.links;
+  trail = v.trail ++ counted (ClaimStore c n) (n + 1) (length v.seen) ∷ [];
+}
+
+-- RECHECK that found the node of the word x, which the claim names: the claim stands
+abbrev pub claimed_view : ℕ → ℕ → ℕ → ℕ → List ℕ → List Entry → View → View
+claimed_view c k x found ws log v = record v {
+  seen = log;
+  look = Some (look_at k found (length log));
+  claims = slice_set v.claims c (standing (found / 2) ws k (length log));
+  trail = v.trail ++ counted (Recheck c k x) found (length log) ∷ [];
+}
+
+-- CLAIM CLEAR
+abbrev pub cleared_view : ℕ → View → View
+cleared_view c v = record v {
+  claims = slice_set v.claims c (silent 0);
+  links = if c == 0 then [] else v.links;
+  trail = v.trail ++ counted (ClaimClear c) 0 (length v.seen) ∷ [];
+}
+
+-- SCAN LOAD: the word x was found; word 0 begins a scan of the nodes that are retired then
+abbrev pub noted : ℕ → List ℕ → List ℕ
+noted zero found = found
+noted (suc n) found = n ∷ found
+
+abbrev pub scan_of : ℕ → View → Scan
+scan_of w v = if w == 0 then record { next = 0; old = v.retired; found = [] } else v.scan
+
+abbrev pub scanned_scan : ℕ → ℕ → View → Scan
+scanned_scan w x v = record { next = w + 1; old = (scan_of w v).old; found = noted x (scan_of w v).found }
+
+abbrev pub scanned_view : ℕ → ℕ → View → View
+scanned_view w x v = record v { scan = scanned_scan w x v; trail = v.trail ++ counted (ScanLoad w) x (length v.seen) ∷ [] }
+
+-- the nodes that the scan frees: the old ones that no word named
+abbrev pub is_freed : Scan → ℕ → Bool
+is_freed scan n = has scan.old n && not (has scan.found n)
+
+-- the last SCAN LOAD: the nodes that were freed, each with its words, are the seat's own
+abbrev pub freed_view : List Held → View → View
+freed_view freed v = record v {
+  own = v.own ++ freed;
+  retired = filter (λ n. not (is_freed v.scan n)) v.retired;
+  scan = record { next = 0; old = []; found = [] };
+}
+
+-- SPLIT: the first seat keeps all numbers but the last, and the new seat has that one, each with its share
+abbrev pub left_view : View → View
+left_view v = let n = length v.numbers - 1 in record v {
+  numbers = take n v.numbers;
+  own = take (v.plan.share * n) v.own;
+  changes = v.plan.changes * n;
+  removes = v.plan.removes * n;
+}
+
+abbrev pub right_view : View → View
+right_view v = let n = length v.numbers - 1 in record v {
+  numbers = drop n v.numbers;
+  own = drop (v.plan.share * n) v.own;
+  changes = v.plan.changes;
+  removes = v.plan.removes;
+}
+
+-- JOIN: all that the other seat has goes to the first
+abbrev pub longer : List Entry → List Entry → List Entry
+longer a b = if nat_lt (length a) (length b) then b else a
+
+abbrev pub shorter : List Entry → List Entry → List Entry
+shorter a b = if nat_lt (length a) (length b) then a else b
+
+abbrev pub joined_view : View → View → View
+joined_view v w = record v {
+  numbers = v.numbers ++ w.numbers;
+  seen = longer v.seen w.seen;
+  earlier = shorter v.seen w.seen;
+  stands = v.stands ++ w.stands;
+  since = length v.trail;
+  own = v.own ++ w.own;
+  retired = v.retired ++ w.retired;
+  changes = v.changes + w.changes;
+  removes = v.removes + w.removes;
+}
+
+-- a view with these numbers and own nodes that knows nothing
+abbrev pub blank_view : Plan → List ℕ → List Held → View
+blank_view p numbers own = record {
+  plan = p;
+  numbers = numbers;
+  seen = [];
+  earlier = [];
+  stands = [];
+  trail = [];
+  since = 0;
+  own = own;
+  retired = [];
+  look = None;
+  changes = p.changes * length numbers;
+  removes = p.removes * length numbers;
+  claims = replicate CLAIMS (silent 0);
+  links = [];
+  scan = record { next = 0; old = []; found = [] };
+  reader = record { cell = 0; version = 0; words = []; at = 0 };
+  writer = record { cell = 0; version = 0; node = 0; locked = false; stores = 0; change = 0 };
+}
+
+-- what is left of a view that was joined to another
+abbrev pub spent_view : View
+spent_view = blank_view (record { seats = 0; share = 0; registers = 0; buckets = 0; changes = 0; removes = 0 }) [] []
+
+-- the n numbers from m on
+abbrev pub count_up : ℕ → ℕ → List ℕ
+count_up m zero = []
+count_up m (suc n) = m ∷ count_up (suc m) n
+
+abbrev pub zero_node : ℕ → Held
+zero_node n = record { node = n; words = replicate NODE_WIDTH 0 }
+
+-- the first seat holds all numbers and all free nodes
+abbrev pub starting : Plan → View
+starting p = blank_view p (count_up 0 p.seats) (map zero_node (count_up (cells p) (p.seats * p.share)))

@@ -1,0 +1,34 @@
+//! The words of a shared object, the seats of its callers, and one rule over both: each atomic step
+//! of a seat keeps it, and what a seat knows by it is what the calls above promise.
+#![tactic(auto)]
+
+mod closed;
+mod counts;
+mod layout;
+mod lists;
+mod opening;
+mod place;
+mod plan;
+mod plays;
+mod rule;
+mod seat;
+mod settle;
+mod shared;
+mod shares;
+mod steps;
+mod view;
+
+pub use closed::Closed;
+pub use counts::Counts;
+pub use layout::{CELL_WIDTH, CLAIMS, Layout, MOST_NODES, NODE_WIDTH, TooLarge};
+pub use opening::{Building, build};
+pub use place::Place;
+pub use plan::Plan;
+pub use rule::Law;
+pub use seat::Seat;
+pub use shared::Shared;
+pub use steps::{
+    backup_exchange, backup_load, claim_clear, claim_store, node_load, node_store, recheck_load,
+    scan_load,
+};
+pub use view::{Claim, Counted, Held, Kind, Look, Reader, Scan, Stand, View, Writer};

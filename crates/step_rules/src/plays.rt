@@ -1,0 +1,91 @@
+//! What each kind of atomic step tells its caller.
+ghost use Rattle.step_rules.specs.Plays.{announced, cleared, exchanged, loaded, looked, rechecked, scanned, settled, stood, stored};
+ghost use Rattle.step_rules.specs.Views.{joined_view, left_view, right_view, spent_view};
+
+use crate::place::{Place, Rechecking, Telling};
+use crate::view::View;
+use atomic_table::{Join, Play, Split};
+use seat_history::Call;
+use std::marker::PhantomData;
+
+pub(crate) struct Stores;
+
+impl Play<Call, View> for Stores {
+    ghost then = { stored };
+}
+
+pub(crate) struct Loads;
+
+impl Play<Call, View> for Loads {
+    ghost then = { loaded };
+}
+
+pub(crate) struct Looks;
+
+impl Play<Call, View> for Looks {
+    ghost then = { looked };
+}
+
+pub(crate) struct Exchanges<T> {
+    of: PhantomData<T>,
+}
+
+impl<T: Telling> Play<Call, View> for Exchanges<T> {
+    ghost then = { exchanged T.call };
+}
+
+pub(crate) struct Announces;
+
+impl Play<Call, View> for Announces {
+    ghost then = { announced };
+}
+
+pub(crate) struct Rechecks<R> {
+    of: PhantomData<R>,
+}
+
+impl<R: Rechecking> Play<Call, View> for Rechecks<R> {
+    ghost then = { rechecked R.claim R.seen };
+}
+
+pub(crate) struct Clears;
+
+impl Play<Call, View> for Clears {
+    ghost then = { cleared };
+}
+
+pub(crate) struct Scans;
+
+impl Play<Call, View> for Scans {
+    ghost then = { scanned };
+}
+
+pub(crate) struct Stands<P, T> {
+    of: PhantomData<(P, T)>,
+}
+
+impl<P: Place, T: Telling> Play<Call, View> for Stands<P, T> {
+    ghost then = { stood P.place T.call T.reply };
+}
+
+pub(crate) struct Settles;
+
+impl Play<Call, View> for Settles {
+    ghost then = { settled };
+}
+
+pub(crate) struct Halves;
+
+impl Split<View> for Halves {
+    ghost left = { left_view };
+
+    ghost right = { right_view };
+}
+
+pub(crate) struct Joins;
+
+impl Join<View> for Joins {
+    ghost both = { joined_view };
+
+    ghost spent = { spent_view };
+}

@@ -1,0 +1,177 @@
+ghost use Rattle.std.specs.Prelude.{◌≡◌, ◌<◌, ◌+◌, ◌-◌, ◌++◌, ◌∷◌, [], true, false, length, slice_index};
+ghost use Rattle.step_rules.specs.Bags.{IsWithout};
+ghost use Rattle.step_rules.specs.SeatData.{IsSeat, SeatData, Takes, is_quiet};
+ghost use Rattle.step_rules.specs.Steps.{IsUnannounced};
+ghost use Rattle.step_rules.specs.Views.{claim_of, number};
+ghost use Rattle.step_rules.specs.World.{has, nodes_of};
+ghost use Rattle.step_rules.specs.declared.layout.TheConstants.{CLAIMS};
+
+use crate::layout::CLAIMS;
+use crate::lists::{holds, take_out};
+use crate::view::View;
+use seat_history::Call;
+use std::marker::Model;
+
+/// A caller's place at a shared object: the numbers under which it calls, the nodes that are its own,
+/// and what it has seen. Every call of a caller is made with its seat.
+#[derive(Drop)]
+pub struct Seat {
+    pub(crate) inner: atomic_table::Seat<Call, View>,
+    /// The least number.
+    pub(crate) least: u32,
+    /// How many numbers are held.
+    pub(crate) numbers: u32,
+    pub(crate) first: bool,
+    pub(crate) fresh: bool,
+    /// Whether a record is held.
+    pub(crate) holds_record: bool,
+    /// How many changes are left.
+    pub(crate) changes: u64,
+    /// How many removes are left.
+    pub(crate) removes: u32,
+    /// The own nodes that are free.
+    pub(crate) free: Vec<u32>,
+    /// The own nodes that are held.
+    pub(crate) holding: Vec<u32>,
+    pub(crate) retired: Vec<u32>,
+    /// What stands in the claim words of the least number: Back, Walk, Own and Hold.
+    pub(crate) claims: [u64; CLAIMS as usize],
+    /// The next word of the scan in flight.
+    pub(crate) scan_next: u32,
+    /// How many nodes were retired when it began. They are the first ones of the list.
+    pub(crate) scan_old: usize,
+    /// The nodes that its words before name.
+    pub(crate) scan_found: Vec<u64>,
+}
+
+impl Model for Seat {
+    ghost use Rattle.std.specs.Prelude.{◌≡◌, vec_capacity};
+    ghost use Rattle.step_rules.specs.SeatData.{IsScan, IsTied, SeatData};
+    ghost use Rattle.step_rules.specs.Views.{number};
+
+    ghost Value = { SeatData };
+
+    ghost view = { λ s. record { object = s.inner.table_id; view = s.inner.me.0; free = s.free.items; holding = s.holding.items; first = s.first; fresh = s.fresh } };
+
+    ghost invariant = { λ s. IsTied s.inner.me s.numbers s.first s.fresh s.holds_record s.free.items s.holding.items s.claims (vec_capacity s.free) (vec_capacity s.holding) (vec_capacity s.retired) × (s.least ≡ number s.inner.me.0) × (s.changes ≡ s.inner.me.0.changes) × (s.removes ≡ s.inner.me.0.removes) × (s.retired.items ≡ s.inner.me.0.retired) × IsScan s.inner.me.0 s.scan_next s.scan_old s.scan_found.items (vec_capacity s.scan_found) };
+}
+
+impl Seat {
+    /// What holds of every seat: it is lawful, and its own nodes are free or held.
+    pub fn law(&self)
+        ensures { IsSeat self.now }
+    {
+        let _least = self.least;
+    }
+
+    /// The least number held, under which the seat's calls stand.
+    pub fn number(&self) -> u32
+        ensures { result ≡ number self.now.view }
+    {
+        self.least
+    }
+
+    /// How many numbers are held.
+    pub fn numbers(&self) -> u32
+        ensures { result ≡ length self.now.view.numbers }
+    {
+        self.numbers
+    }
+
+    /// Whether it is the seat that `build` made.
+    pub fn is_first(&self) -> bool
+        ensures { result ≡ self.now.first }
+    {
+        self.first
+    }
+
+    /// Whether it made no step but splits.
+    pub fn fresh(&self) -> bool
+        ensures { result ≡ self.now.fresh }
+    {
+        self.fresh
+    }
+
+    /// Whether no record and no node is held, and the four claim words are 0.
+    pub fn quiet(&self) -> bool
+        ensures { result ≡ is_quiet self.now }
+    {
+        !self.holds_record && self.holding.is_empty() && self.claims.iter().all(|word| *word == 0)
+    }
+
+    /// How many changes are left.
+    pub fn changes_left(&self) -> u64
+        ensures { result ≡ self.now.view.changes }
+    {
+        self.changes
+    }
+
+    /// How many removes are left.
+    pub fn removes_left(&self) -> u32
+        ensures { result ≡ self.now.view.removes }
+    {
+        self.removes
+    }
+
+    /// How many nodes are free.
+    pub fn free(&self) -> u32
+        ensures { result ≡ length self.now.free }
+    {
+        self.free.len() as u32
+    }
+
+    /// How many nodes are retired.
+    pub fn retired(&self) -> u32
+        ensures { result ≡ length self.now.view.retired }
+    {
+        self.retired.len() as u32
+    }
+
+    /// How many nodes are held.
+    pub fn holding(&self) -> u32
+        ensures { result ≡ length self.now.holding }
+    {
+        self.holding.len() as u32
+    }
+
+    /// What stands in a claim word of its least number: 0, or a node's number and 1.
+    pub fn claim_word(&self, claim: u32) -> u64
+        requires { claim < CLAIMS }
+        ensures { result ≡ (claim_of claim self.now.view).word }
+    {
+        self.claims[claim as usize]
+    }
+
+    /// A free node.
+    pub fn next_free(&self) -> u32
+        requires { 0 < length self.now.free }
+        ensures { result ≡ slice_index self.now.free (length self.now.free - 1) }
+    {
+        self.free[self.free.len() - 1]
+    }
+
+    /// The held node is free again.
+    pub fn unhold(&mut self, node: u32)
+        requires held { has self.old.holding node ≡ true }
+        requires unannounced { IsUnannounced node self.old.view }
+        ensures free { self.new.free ≡ self.old.free ++ node ∷ [] }
+        ensures holding { IsWithout node self.old.holding self.new.holding }
+        ensures same { self.new ≡ record self.old { free = self.new.free; holding = self.new.holding } }
+    {
+        take_out(&mut self.holding, node);
+        self.free.push_reserved(node);
+    }
+
+    /// The own node is held from now on.
+    pub(crate) fn hold(&mut self, node: u32)
+        requires own { has (nodes_of self.old.view.own) node ≡ true }
+        requires used { self.old.fresh ≡ false }
+        ensures held { Takes node self.old self.new }
+    {
+        if holds(&self.holding, node) {
+            return;
+        }
+        take_out(&mut self.free, node);
+        self.holding.push_reserved(node);
+    }
+}

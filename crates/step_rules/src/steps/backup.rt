@@ -1,0 +1,77 @@
+ghost use Rattle.std.specs.Prelude.{◌≡◌, ◌≢◌, ◌<◌, true};
+ghost use Rattle.step_rules.specs.Kinds.Backup.{MayExchange};
+ghost use Rattle.step_rules.specs.SeatData.{IsOf};
+ghost use Rattle.step_rules.specs.Steps.{Sees, Won};
+ghost use Rattle.step_rules.specs.World.{has};
+ghost use Rattle.step_rules.specs.declared.view.Kind.TheVariants.{BackupExchange, BackupLoad};
+
+use crate::lists::take_out;
+use crate::place::Telling;
+use crate::plays::{Exchanges, Looks};
+use crate::seat::Seat;
+use crate::shared::Shared;
+use seat_history::Call;
+use std::marker::Brand;
+
+/// Looks at the backup of a register.
+pub fn backup_load(shared: &Shared, seat: &mut Seat, cell: u32) -> u64
+    requires ours { IsOf shared.now seat.old }
+    requires there { cell < shared.now.plan.registers }
+    ensures seat { Sees (BackupLoad cell) cell result seat.old seat.new }
+{
+    seat.fresh = false;
+    let place = shared.backup_place(cell);
+    shared.table.shared.load::<Looks>(&mut seat.inner, place)
+}
+
+fn exchange_told<T: Telling>(
+    shared: &Shared,
+    seat: &mut Seat,
+    cell: u32,
+    seen: u64,
+    node: u32,
+    call: Call,
+) -> u64
+    requires told { call ≡ T.call }
+    requires ours { IsOf shared.now seat.old }
+    requires may { MayExchange cell seen node call seat.old.view }
+    requires held { has seat.old.holding node ≡ true }
+    ensures won { result ≡ seen → Won cell seen node call seat.old seat.new }
+    ensures lost { result ≢ seen → Sees (BackupExchange cell seen node) cell result seat.old seat.new }
+{
+    seat.fresh = false;
+    let place = shared.backup_place(cell);
+    let new = 2 * u64::from(node) + 1;
+    let found = shared
+        .table
+        .shared
+        .compare_exchange::<Exchanges<T>>(&mut seat.inner, place, seen, new);
+    if found != seen {
+        return found;
+    }
+    seat.changes -= 1;
+    take_out(&mut seat.holding, node);
+    seat.retired.push_reserved((seen / 2) as u32);
+    found
+}
+
+/// Exchanges the backup of a register from a word whose node the seat's Back claim stands on to a held
+/// and announced node, with its mark set, for a call that changes the register's record to that of the
+/// node. It won exactly where it answers that word; then the call is the last of the history, and the
+/// node that fell out is retired.
+pub fn backup_exchange(
+    shared: &Shared,
+    seat: &mut Seat,
+    cell: u32,
+    seen: u64,
+    node: u32,
+    call: Call,
+) -> u64
+    requires ours { IsOf shared.now seat.old }
+    requires may { MayExchange cell seen node call seat.old.view }
+    requires held { has seat.old.holding node ≡ true }
+    ensures won { result ≡ seen → Won cell seen node call seat.old seat.new }
+    ensures lost { result ≢ seen → Sees (BackupExchange cell seen node) cell result seat.old seat.new }
+{
+    exchange_told::<Brand>(shared, seat, cell, seen, node, call)
+}

@@ -1,0 +1,42 @@
+ghost use Rattle.std.specs.Prelude.{◌≡◌, ◌<◌, true};
+ghost use Rattle.step_rules.specs.Kinds.Node.{Reads};
+ghost use Rattle.step_rules.specs.SeatData.{IsOf, Takes};
+ghost use Rattle.step_rules.specs.Steps.{IsUnannounced, MayLoad, stepped};
+ghost use Rattle.step_rules.specs.Views.{loaded_view, stored_view};
+ghost use Rattle.step_rules.specs.World.{has, nodes_of};
+ghost use Rattle.step_rules.specs.declared.layout.TheConstants.{NODE_WIDTH};
+
+use crate::plays::{Loads, Stores};
+use crate::seat::Seat;
+use crate::shared::Shared;
+
+/// Stores one word of a node that is the seat's own and not announced. The first store to a free
+/// node takes it.
+pub fn node_store(shared: &Shared, seat: &mut Seat, node: u32, j: u32, word: u64)
+    requires ours { IsOf shared.now seat.old }
+    requires own { has (nodes_of seat.old.view.own) node ≡ true }
+    requires unannounced { IsUnannounced node seat.old.view }
+    requires word { j < NODE_WIDTH }
+    ensures seat { Takes node (stepped (stored_view node j word seat.old.view) seat.old) seat.new }
+{
+    seat.fresh = false;
+    let place = shared.node_place(node, j);
+    shared
+        .table
+        .shared
+        .store::<Stores>(&mut seat.inner, place, word);
+    seat.hold(node);
+}
+
+/// Loads one word of a node that the seat holds, or that a claim of it stands on.
+pub fn node_load(shared: &Shared, seat: &mut Seat, node: u32, j: u32) -> u64
+    requires ours { IsOf shared.now seat.old }
+    requires known { MayLoad node seat.old }
+    requires word { j < NODE_WIDTH }
+    ensures seat { seat.new ≡ stepped (loaded_view node j result seat.old.view) seat.old }
+    ensures reads { Reads node j result seat.old.view }
+{
+    seat.fresh = false;
+    let place = shared.node_place(node, j);
+    shared.table.shared.load::<Loads>(&mut seat.inner, place)
+}
