@@ -1,0 +1,70 @@
+ghost use Rattle.std.specs.Prelude.{◌≡◌, ◌<◌, ◌+◌, ◌/◌};
+ghost use Rattle.hazard_claims.specs.Claiming.{IsAnnounced, IsReleased, Rechecked, claim_number};
+ghost use Rattle.step_rules.specs.Claims.{Tells};
+ghost use Rattle.step_rules.specs.SeatData.{IsOf};
+ghost use Rattle.step_rules.specs.Steps.{MayClaim};
+ghost use Rattle.step_rules.specs.Views.{claim_of};
+
+use crate::answers::Recheck;
+use step_rules::{Seat, Shared, claim_clear, claim_store, recheck_load};
+
+/// Which claim of a seat.
+#[derive(Clone, Copy, Debug, Drop, PartialEq, Eq)]
+pub enum Claim {
+    /// The node that a cell's backup names.
+    Back,
+    /// A link of a chain.
+    Walk,
+    /// A node of the seat's own that it is about to install.
+    Own,
+    /// The node of the held record.
+    Hold,
+}
+
+impl Claim {
+    /// The place of the claim's word among those of a number.
+    pub fn number(self) -> u32
+        ensures { result ≡ claim_number self }
+    {
+        match self {
+            Claim::Back => 0,
+            Claim::Walk => 1,
+            Claim::Own => 2,
+            Claim::Hold => 3,
+        }
+    }
+}
+
+/// Announces a node. On Own the seat holds the node, and the claim stands at once.
+pub fn announce(shared: &Shared, seat: &mut Seat, claim: Claim, node: u32)
+    requires ours { IsOf shared.now seat.old }
+    requires may { MayClaim (claim_number claim) node seat.old }
+    ensures announced { IsAnnounced claim node seat.old seat.new }
+{
+    claim_store(shared, seat, claim.number(), node);
+}
+
+/// Looks at a register's backup again. Same comes exactly where it names the node of `seen`, with
+/// either mark; from then on the claim stands.
+pub fn recheck(shared: &Shared, seat: &mut Seat, claim: Claim, cell: u32, seen: u64) -> Recheck
+    requires ours { IsOf shared.now seat.old }
+    requires there { cell < shared.now.plan.registers }
+    requires tells { Tells (claim_number claim) }
+    requires named { (claim_of (claim_number claim) seat.old.view).word ≡ seen / 2 + 1 }
+    ensures rechecked { Rechecked claim cell seen result seat.old seat.new }
+{
+    let found = recheck_load(shared, seat, claim.number(), cell, seen);
+    if found / 2 == seen / 2 {
+        Recheck::Same(found)
+    } else {
+        Recheck::Other(found)
+    }
+}
+
+/// Ends a claim.
+pub fn release(shared: &Shared, seat: &mut Seat, claim: Claim)
+    requires ours { IsOf shared.now seat.old }
+    ensures released { IsReleased claim seat.old seat.new }
+{
+    claim_clear(shared, seat, claim.number());
+}
