@@ -1,0 +1,12 @@
+pub mod Answering
+pub mod Calling
+pub mod Endings
+pub mod Goings
+pub mod Installing
+pub mod Preparing
+pub mod Reading
+pub mod Storing
+pub mod Swapping
+pub mod Trying
+pub mod Turns
+pub mod Unlike

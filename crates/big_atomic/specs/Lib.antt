@@ -1,0 +1,4 @@
+pub mod Calls
+pub mod Looking
+pub mod Ready
+pub mod Storing

@@ -1,0 +1,19 @@
+/// What a store answers.
+#[derive(Clone, Copy, Debug, Drop, PartialEq, Eq)]
+pub enum Stored {
+    /// The register is the new record.
+    Done,
+    /// The register stays, since fewer nodes are free than are needed.
+    Full { need: u32, free: u32 },
+}
+
+/// What a compare-and-swap answers.
+#[derive(Clone, Copy, Debug, Drop, PartialEq, Eq)]
+pub enum Swap {
+    /// The register was the old record, and is the new one.
+    Yes,
+    /// The register wasn't the old record.
+    No,
+    /// The register was the old record and stays so, since fewer nodes are free than are needed.
+    Full { need: u32, free: u32 },
+}

@@ -1,0 +1,19 @@
+//! Registers of several words, with atomic loads, stores and compare-and-swaps, and held records.
+#![tactic(auto)]
+
+mod answers;
+mod holds;
+mod loads;
+mod looking;
+mod rooms;
+mod standing;
+mod stores;
+mod swaps;
+#[cfg(test)]
+mod tests;
+
+pub use answers::{Stored, Swap};
+pub use holds::{hold, look, release_hold};
+pub use loads::load;
+pub use stores::store;
+pub use swaps::compare_and_swap;
