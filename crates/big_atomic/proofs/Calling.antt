@@ -1,20 +1,18 @@
 -- How a call that may give a register a new record goes on from its look, and how it ends.
-use Rattle.std.proofs.Common.{◌≡◌, ◌≢◌, ◌∙◌, ℕ, ◌+◌, ◌*◌, ◌/◌, ◌<◌, ◌≤◌, suc, zero, Bool, true, false, not, ◌&&◌, cond, List, [], ◌∷◌, ◌++◌, Option, Some, is_some, length, take, drop, get_or, append-nil, append_assoc, length-append, refl, sym, ap, subst, arith}
+use Rattle.std.proofs.Common.{◌≡◌, ◌∙◌, ℕ, ◌*◌, ◌<◌, ◌≤◌, zero, true, List, [], ◌∷◌, ◌++◌, Option, Some, is_some, length, drop, get_or, append-nil, append_assoc, refl, sym, ap, subst, arith}
 use Rattle.std.proofs.lemmas.List.{drop-append-le}
 use mathlib.Core.Option.{some}
 use lib.ListN.{get_elem?}
 use Rattle.big_atomic.proofs.Endings.{no_look_first}
 use Rattle.big_atomic.proofs.Goings.{may_now, changes-append, drop_parts, goes_then, has_looked, held_stays, looked_more, lost-append}
 use Rattle.big_atomic.proofs.Storing.{ended_runs}
-use Rattle.big_atomic.specs.Calls.{IsFullAnswer, IsLeft, TurnsAreChanges, changes_on, lost_steps, register_at}
+use Rattle.big_atomic.specs.Calls.{IsFullAnswer, IsLeft, TurnsAreChanges, changes_on, lost_steps}
 use Rattle.big_atomic.specs.Looking.{AreQuiet, Goes, HasClaimed, HasEnded, HasStepped, OnlyLooked}
-use Rattle.big_atomic.specs.Storing.{Cost, Ends, HasClaim, HasRoom, IsCalling, IsCleared, IsNoneFree, IsScanned, Runs}
+use Rattle.big_atomic.specs.Storing.{Ends, HasClaim, HasRoom, IsCalling, IsCleared, IsNoneFree, Runs}
 use Rattle.seat_history.specs.Contents.{Contents}
 use Rattle.seat_history.specs.History.{state_at}
 use Rattle.seat_history.specs.Step.{held_after}
 use Rattle.seat_history.specs.declared.call.Call.{Call}
-use Rattle.seat_history.specs.declared.call.Call.TheVariants.{Load}
-use Rattle.seat_history.specs.declared.entry.Entry.{Entry}
 use Rattle.seat_history.specs.declared.reply.Reply.{Reply}
 use Rattle.seat_history.specs.declared.reply.Reply.TheVariants.{Full}
 use Rattle.step_rules.proofs.Advance.{goes_further}
@@ -28,7 +26,7 @@ use Rattle.step_rules.specs.Lawful.{IsRight, entry_of, held_by}
 use Rattle.step_rules.specs.Layout.{claim_at}
 use Rattle.step_rules.specs.SeatData.{IsOf, IsSeat, ObjectData, SeatData, holds_record}
 use Rattle.step_rules.specs.Sound.{Sound}
-use Rattle.step_rules.specs.Steps.{HasLooked, HasScanned, IsThere, MayAnswer, found_at, kinds_of, scan_kinds, Won, stepped}
+use Rattle.step_rules.specs.Steps.{HasLooked, HasScanned, IsThere, MayAnswer, found_at, scan_kinds, Won, stepped}
 use Rattle.step_rules.specs.Stood.{Stood}
 use Rattle.step_rules.specs.Views.{claim_of, number, reading, stock, stood_view}
 use Rattle.step_rules.specs.declared.layout.TheConstants.{CLAIMS}

@@ -1,38 +1,32 @@
 -- How a store comes to its answer.
-use Rattle.std.proofs.Common.{◌≡◌, ◌≢◌, ◌∙◌, ℕ, ◌+◌, ◌-◌, ◌*◌, ◌/◌, ◌<◌, ◌≤◌, suc, zero, Bool, true, false, not, ◌&&◌, cond, List, [], ◌∷◌, ◌++◌, Option, Some, None, is_some, length, take, drop, append-nil, append_assoc, length-append, refl, sym, ap, subst, arith}
+use Rattle.std.proofs.Common.{◌≡◌, ◌≢◌, ◌∙◌, ℕ, ◌*◌, ◌<◌, ◌≤◌, Bool, true, false, not, ◌&&◌, List, [], ◌∷◌, ◌++◌, Option, Some, length, drop, refl, sym, ap, subst, arith}
 use Rattle.std.proofs.lemmas.Bool.{and_right}
 use Rattle.big_atomic.proofs.Calling.{all_cleared, back_claim, calling_ended, calling_first, calling_later, ends_after, ends_earlier, ends_stand, few_nodes, looked_runs, may_full_now, none_parts, still_ours, whole_full, whole_left, whole_looked, whole_stood}
-use Rattle.big_atomic.proofs.Endings.{no_look_first}
-use Rattle.big_atomic.proofs.Goings.{goes_then, has_looked, looked_more, may_now, right_at, stepped_more}
+use Rattle.big_atomic.proofs.Goings.{has_looked, looked_more, may_now, right_at, stepped_more}
 use Rattle.big_atomic.proofs.Storing.{ended_runs, no_more, runs_then}
-use Rattle.big_atomic.proofs.Trying.{ends_won, lost_changed, lost_runs, lost_step, may_exchange, none_held, prepared_claim, prepared_holding, prepared_left, prepared_there, put_runs, won_stand, won_step}
+use Rattle.big_atomic.proofs.Trying.{ends_won, lost_changed, lost_runs, lost_step, none_held, prepared_claim, prepared_holding, prepared_left, prepared_there, put_runs, won_stand, won_step}
 use Rattle.big_atomic.proofs.Turns.{lost_longer}
 use Rattle.big_atomic.specs.Calls.{IsStored, register_at, store_reply}
-use Rattle.big_atomic.specs.Looking.{Goes, HasClaimed, HasEnded, HasStepped}
-use Rattle.big_atomic.specs.Storing.{Ends, HasClaim, HasRoom, HasTurnedOver, IsCalling, IsCleared, IsDone, IsNoneFree, IsPrepared, IsPut, IsWorking, Runs}
+use Rattle.big_atomic.specs.Looking.{HasClaimed, HasEnded}
+use Rattle.big_atomic.specs.Storing.{Ends, HasClaim, HasRoom, HasTurnedOver, IsCalling, IsCleared, IsDone, IsPrepared, IsPut, IsWorking, Runs}
 use Rattle.big_atomic.specs.declared.answers.Stored.{Stored}
 use Rattle.big_atomic.specs.declared.answers.Stored.TheVariants.{Done as StoreDone, Full as StoreFull}
 use Rattle.node_pool.specs.Pool.{IsPutBack}
-use Rattle.seat_history.proofs.Changed.{set_at_here}
 use Rattle.seat_history.specs.Change.{is_change}
 use Rattle.seat_history.specs.Contents.{Contents}
 use Rattle.seat_history.specs.History.{state_at}
 use Rattle.seat_history.specs.Step.{is_same, reply_to}
-use Rattle.seat_history.specs.declared.call.Call.{Call}
-use Rattle.seat_history.specs.declared.call.Call.TheVariants.{Load, Store}
+use Rattle.seat_history.specs.declared.call.Call.TheVariants.{Store}
 use Rattle.seat_history.specs.declared.entry.Entry.{Entry}
 use Rattle.seat_history.specs.declared.reply.Reply.TheVariants.{Done, Full}
-use Rattle.seat_history.specs.declared.words.TheConstants.{WIDTH}
 use Rattle.step_rules.proofs.Trails.{longer_seen}
 use Rattle.step_rules.specs.Claims.{BACK, HOLD, OWN, On, WALK}
-use Rattle.step_rules.specs.History.{GoesOn, NoneOn}
-use Rattle.step_rules.specs.Kinds.Backup.{MayExchange}
 use Rattle.step_rules.specs.Kinds.Standing.{first_look}
 use Rattle.step_rules.specs.Lawful.{IsRight}
 use Rattle.step_rules.specs.SeatData.{IsOf, IsSeat, ObjectData, SeatData}
 use Rattle.step_rules.specs.Sound.{Sound}
-use Rattle.step_rules.specs.Steps.{HasLooked, MayAnswer, Sees, Won, stepped}
-use Rattle.step_rules.specs.Views.{claim_of, number, reading, stock, stood_view, words_in}
+use Rattle.step_rules.specs.Steps.{MayAnswer, Sees, Won, stepped}
+use Rattle.step_rules.specs.Views.{claim_of, reading, stock, stood_view, words_in}
 use Rattle.step_rules.specs.World.{has, nodes_of}
 use Rattle.step_rules.specs.declared.layout.TheConstants.{CLAIMS}
 use Rattle.step_rules.specs.declared.plan.Plan.{Plan}
@@ -40,7 +34,6 @@ use Rattle.step_rules.specs.declared.view.Claim.{Claim}
 use Rattle.step_rules.specs.declared.view.Counted.{Counted}
 use Rattle.step_rules.specs.declared.view.Held.{Held}
 use Rattle.step_rules.specs.declared.view.Kind.TheVariants.{BackupExchange}
-use Rattle.step_rules.specs.declared.view.Stand.{Stand}
 use Rattle.step_rules.specs.declared.view.View.{View}
 
 -- the answers that change nothing
@@ -53,10 +46,6 @@ right_full v q reg new within other few = right_at v q (Store reg new) (Full 1 0
     (sym (and_right (is_change (state_at v.seen q) (Store reg new)) false refl))
 
 -- ONE EXCHANGE
--- it may be tried
-pub may_install : (reg word node : ℕ) (new : List ℕ) (seat : SeatData) → length new ≡ WIDTH → IsWorking reg word node new seat → MayExchange reg word node (Store reg new) seat.view
-may_install reg word node new seat wide w = may_exchange reg word node (Store reg new) new seat w.claim w.mine w.own w.words (set_at_here (state_at seat.view.seen (length seat.view.seen)).registers reg new) refl (ap not w.other) wide w.left w.sound
-
 -- it won
 pub installed_won : (reg word node : ℕ) (new : List ℕ) (now after ended : SeatData) → IsWorking reg word node new now → Won reg word node (Store reg new) now after → HasEnded after ended → IsDone reg new now ended
 installed_won reg word node new now after ended w won e =
@@ -74,9 +63,6 @@ module _ (reg word node x : ℕ) (new : List ℕ) (now after : SeatData) (w : Is
 
   failed_runs : Runs reg failed now after
   failed_runs = lost_runs reg word node x now after w.claim.found ne sees w.sound sound_after
-
-  pub failed_ours : (shared : ObjectData) → IsOf shared now → IsOf shared after
-  failed_ours shared ours = still_ours shared reg failed now after ours failed_runs
 
   module _ (next : ℕ) (rec : List ℕ) (v : SeatData) (h : HasClaimed BACK reg next rec after v) where
     reclaimed_runs : Runs reg (failed ++ h.steps) now v
@@ -112,9 +98,6 @@ module _ (reg word node x : ℕ) (new : List ℕ) (now after : SeatData) (w : Is
           omega arith,
         )
 
-    pub turned_ours : (shared : ObjectData) → IsOf shared now → IsOf shared v
-    turned_ours shared ours = still_ours shared reg (failed ++ h.steps) now v ours reclaimed_runs
-
     -- with the new record: the claims were ended, and the node was put back
     module _ (ended put : SeatData) (e : HasEnded v ended) (back : IsPutBack node ended put) (sound_put : Sound put.view) (same : is_same rec new ≡ true) where
       abbrev put_view : put.view ≡ ended.view
@@ -134,9 +117,6 @@ module _ (reg word node x : ℕ) (new : List ℕ) (now after : SeatData) (w : Is
 
       put_same : is_same (register_at put.view (length put.view.seen) reg) new ≡ true
       put_same = ap (λ (s : List Entry). is_same ((state_at s (length s)).registers reg) new) put_seen ∙ (ap (λ (l : List ℕ). is_same l new) h.record_is ∙ same)
-
-      pub put_ours : (shared : ObjectData) → IsOf shared now → IsOf shared put
-      put_ours shared ours = still_ours shared reg ((failed ++ h.steps) ++ (e.steps ++ [])) now put ours whole_runs
 
       pub may_put : MayAnswer (length put.view.seen) (Store reg new) Done put
       may_put =

@@ -1,11 +1,11 @@
 -- How a free node is taken, filled and announced.
-use Rattle.std.proofs.Common.{◌≡◌, ◌≢◌, ◌∙◌, ℕ, ◌+◌, ◌<◌, ◌≤◌, suc, zero, true, false, eqb, eq-eqb, List, [], ◌∷◌, ◌++◌, length, get_or, set, append_assoc, length-append, refl, sym, ap, subst, arith}
+use Rattle.std.proofs.Common.{◌≡◌, ◌≢◌, ◌∙◌, ℕ, ◌+◌, suc, true, false, eqb, eq-eqb, List, [], ◌∷◌, ◌++◌, length, get_or, append_assoc, length-append, refl, sym, ap, subst, arith}
 use Rattle.std.proofs.lemmas.Bool.{or_left}
 use Rattle.std.proofs.lemmas.List.{get_or-set_other, get_or-set_same}
 use Rattle.big_atomic.proofs.Endings.{quiet_none, quiet_then}
 use Rattle.big_atomic.proofs.Goings.{goes_still}
 use Rattle.big_atomic.proofs.Storing.{quiet_step}
-use Rattle.big_atomic.specs.Looking.{AreQuiet, Goes}
+use Rattle.big_atomic.specs.Looking.{AreQuiet}
 use Rattle.big_atomic.specs.Storing.{IsPrepared}
 use Rattle.hazard_claims.specs.Claiming.{IsAnnounced}
 use Rattle.hazard_claims.specs.declared.claims.Claim.TheVariants.{Own}
@@ -19,10 +19,9 @@ use Rattle.step_rules.specs.SeatData.{IsSeat, SeatData}
 use Rattle.step_rules.specs.Steps.{MayClaim}
 use Rattle.step_rules.specs.Views.{announced_view, claim_of, counted, silent, standing, stored_view, words_in}
 use Rattle.step_rules.specs.World.{has, nodes_of}
-use Rattle.step_rules.specs.declared.layout.TheConstants.{CLAIMS, NODE_WIDTH}
+use Rattle.step_rules.specs.declared.layout.TheConstants.{CLAIMS}
 use Rattle.step_rules.specs.declared.view.Claim.{Claim}
 use Rattle.step_rules.specs.declared.view.Counted.{Counted}
-use Rattle.step_rules.specs.declared.view.Held.{Held}
 use Rattle.step_rules.specs.declared.view.Kind.TheVariants.{ClaimStore, NodeStore}
 use Rattle.step_rules.specs.declared.view.View.{View}
 

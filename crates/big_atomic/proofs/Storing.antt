@@ -1,25 +1,17 @@
 -- How a call that gives a register a new record goes on.
-use Rattle.std.proofs.Common.{◌≡◌, ◌≢◌, ◌∙◌, ℕ, ◌+◌, ◌*◌, ◌/◌, ◌<◌, ◌≤◌, suc, zero, Bool, true, false, not, ◌&&◌, cond, eqb, eq-eqb, List, [], ◌∷◌, ◌++◌, ◌⊎◌, ⊎_elim, Option, Some, None, length, filter, take, drop, append-nil, append_assoc, length-append, refl, sym, ap, subst, arith}
-use Rattle.std.proofs.lemmas.List.Elements.{filter-append}
+use Rattle.std.proofs.Common.{◌≡◌, ◌≢◌, ◌∙◌, ℕ, ◌+◌, ◌*◌, ◌<◌, ◌≤◌, suc, zero, Bool, false, not, cond, List, [], ◌∷◌, ◌++◌, ◌⊎◌, ⊎_elim, Some, length, filter, append-nil, append_assoc, length-append, refl, sym, ap, subst, arith}
 use Rattle.std.proofs.lemmas.List.Filters.{length-filter_both}
-use Rattle.std.proofs.Math.Seq.{drop-append_seam}
-use mathlib.Core.Option.{some}
-use lib.ListN.{get_elem?}
 use Rattle.big_atomic.proofs.Endings.{quiet_none, quiet_then}
 use Rattle.big_atomic.proofs.Goings.{exchanges-append, goes_none, goes_still, goes_then, lost-append}
-use Rattle.big_atomic.specs.Calls.{HoldIsFree, exchanges, is_exchange, is_lost, is_lost_by, lost_steps}
-use Rattle.big_atomic.specs.Looking.{AreQuiet, Goes, HasEnded}
-use Rattle.big_atomic.specs.Storing.{Cost, HasRoom, IsCleared, IsScanned, Runs}
+use Rattle.big_atomic.specs.Calls.{HoldIsFree, is_exchange, is_lost, is_lost_by}
+use Rattle.big_atomic.specs.Looking.{AreQuiet, HasEnded}
+use Rattle.big_atomic.specs.Storing.{Cost, HasRoom, Runs}
 use Rattle.hazard_claims.specs.Scanning.{IsScan, names}
-use Rattle.seat_history.specs.declared.entry.Entry.{Entry}
-use Rattle.step_rules.proofs.Advance.{goes_further}
-use Rattle.step_rules.proofs.Trails.{goes_on_same}
 use Rattle.step_rules.specs.Claims.{BACK, HOLD, OWN, WALK}
-use Rattle.step_rules.specs.History.{GoesOn, cell_of}
 use Rattle.step_rules.specs.Kinds.Standing.{first_look, is_look}
 use Rattle.step_rules.specs.Layout.{claim_at}
 use Rattle.step_rules.specs.SeatData.{SeatData, holds_record}
-use Rattle.step_rules.specs.Steps.{HasScanned, found_at, kinds_of, scan_kinds}
+use Rattle.step_rules.specs.Steps.{found_at, kinds_of, scan_kinds}
 use Rattle.step_rules.specs.Views.{claim_of, counted, number}
 use Rattle.step_rules.specs.declared.layout.TheConstants.{CLAIMS}
 use Rattle.step_rules.specs.declared.plan.Plan.{Plan}

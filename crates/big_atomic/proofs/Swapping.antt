@@ -1,17 +1,16 @@
 -- How a compare-and-swap comes to its answer.
-use Rattle.std.proofs.Common.{◌≡◌, ◌≢◌, ◌∙◌, ℕ, ◌+◌, ◌-◌, ◌*◌, ◌/◌, ◌<◌, ◌≤◌, suc, zero, Bool, true, false, not, ◌&&◌, cond, List, [], ◌∷◌, ◌++◌, Option, Some, unwrap_or, is_some, length, take, drop, get_or, append-nil, append_assoc, length-append, refl, sym, ap, subst, arith}
+use Rattle.std.proofs.Common.{◌≡◌, ◌≢◌, ◌∙◌, ℕ, ◌+◌, ◌-◌, ◌*◌, ◌/◌, ◌<◌, ◌≤◌, Bool, true, false, not, ◌&&◌, cond, List, [], ◌∷◌, ◌++◌, Option, Some, unwrap_or, length, drop, length-append, refl, sym, ap, subst, arith}
 use Rattle.std.proofs.lemmas.Bool.{and_right, false≢true}
-use Rattle.std.proofs.Math.Seq.{drop-append_seam, take-append_seam}
+use Rattle.std.proofs.Math.Seq.{drop-append_seam}
 use Rattle.big_atomic.proofs.Calling.{all_cleared, calling_ended, calling_first, ends_after, ends_stand, few_nodes, looked_runs, may_full_now, none_parts, still_ours, whole_full, whole_left, whole_looked, whole_stood}
-use Rattle.big_atomic.proofs.Endings.{no_look_first}
-use Rattle.big_atomic.proofs.Goings.{exchanges-append, held_stays, looked_more, lost-append, may_now, right_at}
+use Rattle.big_atomic.proofs.Goings.{exchanges-append, lost-append, may_now, right_at}
 use Rattle.big_atomic.proofs.Reading.{read_calling, read_cost, read_is, read_runs, read_steps}
-use Rattle.big_atomic.proofs.Storing.{cost_then, ended_runs, no_more, quiet_cost, runs_then}
+use Rattle.big_atomic.proofs.Storing.{cost_then, ended_runs, no_more, quiet_cost}
 use Rattle.big_atomic.proofs.Trying.{ends_won, may_exchange, prepared_claim, prepared_holding, prepared_left, prepared_reached, prepared_there, try_calling, try_changed, try_cost, try_runs, try_steps, won_kept, won_stand, won_step}
 use Rattle.big_atomic.proofs.Unlike.{IsFirst, first_is, unlike_at}
-use Rattle.big_atomic.specs.Calls.{IsFirstUnlike, IsFullAnswer, IsSwapped, exchanges, lost_steps, register_at, swap_reply}
+use Rattle.big_atomic.specs.Calls.{IsFirstUnlike, IsSwapped, exchanges, lost_steps, register_at, swap_reply}
 use Rattle.big_atomic.specs.Looking.{Goes, HasEnded, HasRead, HasStepped, OnlyLooked}
-use Rattle.big_atomic.specs.Storing.{Cost, Ends, HasClaim, HasRoom, IsAnswered, IsCalling, IsCleared, IsNoneFree, IsPrepared, IsUnlike, Runs, refused_at, tried_at}
+use Rattle.big_atomic.specs.Storing.{Cost, Ends, HasClaim, HasRoom, IsAnswered, IsCalling, IsCleared, IsPrepared, IsUnlike, Runs, refused_at, tried_at}
 use Rattle.big_atomic.specs.declared.answers.Swap.{Swap as Answer}
 use Rattle.big_atomic.specs.declared.answers.Swap.TheVariants.{Yes as SwapYes, No as SwapNo, Full as SwapFull}
 use Rattle.node_pool.specs.Pool.{IsPutBack}
@@ -20,25 +19,22 @@ use Rattle.seat_history.specs.Change.{is_change}
 use Rattle.seat_history.specs.Contents.{Contents, set_at}
 use Rattle.seat_history.specs.History.{state_at}
 use Rattle.seat_history.specs.Step.{is_same, reply_to}
-use Rattle.seat_history.specs.declared.call.Call.{Call}
-use Rattle.seat_history.specs.declared.call.Call.TheVariants.{Load, Swap}
+use Rattle.seat_history.specs.declared.call.Call.TheVariants.{Swap}
 use Rattle.seat_history.specs.declared.entry.Entry.{Entry}
 use Rattle.seat_history.specs.declared.reply.Reply.TheVariants.{Yes, No, Full}
 use Rattle.seat_history.specs.declared.words.TheConstants.{WIDTH}
 use Rattle.step_rules.specs.Claims.{BACK, HOLD, OWN}
-use Rattle.step_rules.specs.History.{GoesOn, IsHistory, NoneOn}
+use Rattle.step_rules.specs.History.{NoneOn}
 use Rattle.step_rules.specs.Kinds.Backup.{MayExchange}
 use Rattle.step_rules.specs.Kinds.Standing.{first_look}
-use Rattle.step_rules.specs.Lawful.{Below, IsRight}
+use Rattle.step_rules.specs.Lawful.{IsRight}
 use Rattle.step_rules.specs.SeatData.{IsOf, IsSeat, ObjectData, SeatData}
 use Rattle.step_rules.specs.Sound.{Sound}
-use Rattle.step_rules.specs.Steps.{HasLooked, MayAnswer, Sees, Won, stepped}
-use Rattle.step_rules.specs.Views.{claim_of, number, reading, stock, stood_view}
+use Rattle.step_rules.specs.Steps.{MayAnswer, Sees, Won, stepped}
+use Rattle.step_rules.specs.Views.{claim_of, reading, stock, stood_view}
 use Rattle.step_rules.specs.declared.layout.TheConstants.{CLAIMS, NODE_WIDTH}
-use Rattle.step_rules.specs.declared.plan.Plan.{Plan}
 use Rattle.step_rules.specs.declared.view.Counted.{Counted}
 use Rattle.step_rules.specs.declared.view.Kind.TheVariants.{BackupExchange}
-use Rattle.step_rules.specs.declared.view.Stand.{Stand}
 use Rattle.step_rules.specs.declared.view.View.{View}
 
 -- the answers that change nothing, each at a place where it is right
@@ -123,17 +119,6 @@ answered_no reg old new from seat stood c cleared u e sound =
 
 pub answered_refused : (reg : ℕ) (old new : List ℕ) (from : ℕ) (u v w : SeatData) → IsCalling reg from u → HasEnded u v → IsAnswered reg old new from 0 0 0 SwapNo v w → IsAnswered reg old new from 0 0 3 SwapNo u w
 answered_refused reg old new from u v w c e x = answered_ended reg old new from SwapNo u v w c.sound e x
-
--- it may be found after the claims were ended
-pub still_unlike : (reg : ℕ) (old : List ℕ) (from : ℕ) (u v : SeatData) → HasEnded u v → IsUnlike reg old from u.view → IsUnlike reg old from v.view
-still_unlike reg old from u v e x =
-    let seen : v.view.seen ≡ u.view.seen = ap (λ (z : View). z.seen) e.view in
-    record {
-      place = x.place;
-      late = x.late;
-      within = subst (λ (s : List Entry). x.place ≤ length s) (sym seen) x.within;
-      unlike = subst (λ (s : List Entry). is_same ((state_at s x.place).registers reg) old ≡ false) (sym seen) x.unlike;
-    }
 
 -- others changed the register since a place
 pub changed_unlike : (reg : ℕ) (old : List ℕ) (from at : ℕ) (v : View) → Sound v → reg < v.plan.registers → from ≤ at → ¬ NoneOn v.plan reg (drop at v.seen) → IsUnlike reg old from v

@@ -1,6 +1,5 @@
 -- An exchange for a call that gives a register a new record: what it asks, and what it leaves where it won and where it was lost.
-use Rattle.std.proofs.Common.{◌≡◌, ◌≢◌, ◌∙◌, ℕ, ◌+◌, ◌-◌, ◌*◌, ◌/◌, ◌<◌, ◌≤◌, suc, zero, Bool, true, false, not, cond, eqb, eq-eqb, List, [], ◌∷◌, ◌++◌, Option, Some, length, take, drop, filter, get_or, append-nil, append_assoc, length-append, refl, sym, ap, subst, arith}
-use Rattle.std.proofs.lemmas.Bool.{cases_Bool}
+use Rattle.std.proofs.Common.{◌≡◌, ◌≢◌, ◌∙◌, ℕ, ◌+◌, ◌/◌, ◌<◌, ◌≤◌, Bool, true, false, not, cond, eq-eqb, List, [], ◌∷◌, ◌++◌, Option, Some, length, take, drop, filter, append_assoc, length-append, refl, sym, ap, subst, arith}
 use Rattle.std.proofs.Math.Seq.{take-append_seam}
 use mathlib.Core.Option.{some}
 use lib.ListN.{get_elem?}
@@ -8,7 +7,7 @@ use Rattle.big_atomic.proofs.Calling.{calling_on, same_number}
 use Rattle.big_atomic.proofs.Endings.{quiet_none}
 use Rattle.big_atomic.proofs.Goings.{goes_none, others_change}
 use Rattle.big_atomic.proofs.Storing.{cost_then, ended_runs, no_more, quiet_cost, runs_then}
-use Rattle.big_atomic.specs.Calls.{TurnsAreChanges, changes_on, is_lost, lost_steps, register_at}
+use Rattle.big_atomic.specs.Calls.{is_lost, lost_steps, register_at}
 use Rattle.big_atomic.specs.Looking.{Goes, HasEnded}
 use Rattle.big_atomic.specs.Storing.{Cost, Ends, HasClaim, IsCalling, IsCleared, IsPrepared, Runs}
 use Rattle.node_pool.specs.Pool.{IsPutBack}
@@ -35,7 +34,7 @@ use Rattle.step_rules.specs.Sound.{Sound}
 use Rattle.step_rules.specs.Steps.{Sees, Won}
 use Rattle.step_rules.specs.Views.{changing, claim_of, counted, entry, look_at, number, silent, words_in}
 use Rattle.step_rules.specs.World.{has, nodes_of}
-use Rattle.step_rules.specs.declared.layout.TheConstants.{CLAIMS, NODE_WIDTH}
+use Rattle.step_rules.specs.declared.layout.TheConstants.{NODE_WIDTH}
 use Rattle.step_rules.specs.declared.plan.Plan.{Plan}
 use Rattle.step_rules.specs.declared.view.Claim.{Claim}
 use Rattle.step_rules.specs.declared.view.Counted.{Counted}

@@ -1,4 +1,4 @@
-use Rattle.std.proofs.Common.{ℕ, List, length, ◌*◌, ◌-◌}
+use Rattle.std.proofs.Common.{List, length, ◌*◌, ◌-◌}
 use Rattle.big_atomic.specs.Storing.{IsWorking, Runs}
 use Rattle.step_rules.specs.declared.view.Counted.{Counted}
 use Rattle.big_atomic.proofs.stores.install.Given as goal

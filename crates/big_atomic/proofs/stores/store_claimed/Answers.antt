@@ -1,4 +1,4 @@
-use Rattle.std.proofs.Common.{◌∙◌, arith, sym}
+use Rattle.std.proofs.Common.{◌∙◌, sym}
 use Rattle.big_atomic.proofs.Calling.{still_ours}
 use Rattle.big_atomic.proofs.Installing.{is_working, may_done, may_full, put_done, put_full, put_installed}
 use Rattle.big_atomic.proofs.stores.store_claimed.Goals as goal

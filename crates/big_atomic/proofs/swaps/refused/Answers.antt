@@ -1,5 +1,5 @@
-use Rattle.big_atomic.proofs.Calling.{calling_ended, all_cleared}
-use Rattle.big_atomic.proofs.Swapping.{answered_refused, still_unlike}
+use Rattle.big_atomic.proofs.Calling.{calling_ended}
+use Rattle.big_atomic.proofs.Swapping.{answered_refused}
 use Rattle.big_atomic.proofs.swaps.refused.Goals as goal
 
 pub stand_unlike-requires-clause-calling : goal.stand_unlike-requires-clause-calling
