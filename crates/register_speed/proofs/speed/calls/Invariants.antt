@@ -1,0 +1,5 @@
+use Rattle.register_speed.specs.Ready.{IsReady}
+use Rattle.register_speed.proofs.speed.calls.Given as goal
+
+abbrev pub invariant-loop-i : goal.invariant-loop-i
+invariant-loop-i l = IsReady l.shared l.seat
