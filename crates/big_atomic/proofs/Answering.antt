@@ -4,7 +4,7 @@ use Rattle.std.proofs.Math.Seq.{take-append_seam}
 use mathlib.Core.Option.{some}
 use lib.ListN.{get_elem?}
 use Rattle.big_atomic.proofs.Endings.{ended_cleared}
-use Rattle.big_atomic.proofs.Goings.{goes_still, goes_then, has_looked, held_stays, may_now, right_at, stepped_more, stood_at, stood_still_at}
+use Rattle.big_atomic.proofs.Goings.{exchanges-append, goes_still, goes_then, has_looked, held_stays, may_now, right_at, stepped_more, stood_at, stood_still_at}
 use Rattle.big_atomic.proofs.Turns.{nodes_low, read_goes}
 use Rattle.big_atomic.specs.Calls.{HoldStays, IsDropped, IsHeld, IsHolding, IsLeft, IsLoaded, IsLooked, TurnsAreChanges, register_at}
 use Rattle.big_atomic.specs.Looking.{Goes, HasClaimed, HasEnded, HasEndedOne, HasRead, HasStepped}
@@ -159,6 +159,7 @@ loaded reg word rec before mid ended after idle first h e s sound =
       left = left q (Load reg) (Words rec) (reading q (Load reg) (Words rec) ended.view) before mid ended after idle (claimed_keeps BACK reg word rec before mid h) e s;
       hold = hold_stays reg q (Load reg) (Words rec) (h.steps ++ e.steps) before ended after first w.goes (e.hold ∙ h.others HOLD (λ e. absurd (omega arith))) s (λ c held. refl);
       turns = turns_after reg q (Load reg) (Words rec) (h.steps ++ e.steps) before.view ended.view after.view w.goes view;
+      none_exchanged = let first = h.none in let second = e.quiet.none in omega (arith, exchanges-append h.steps e.steps);
     }
 
 -- a record is held
@@ -186,6 +187,7 @@ held_now reg word rec before mid ended after idle first h e s sound =
         image = ap (λ (y : Claim). y.image) claim ∙ (image ∙ ap (λ (r : List ℕ). r ++ 0 ∷ []) (sym same));
       };
       turns = turns_after reg q (Hold reg) Done (h.steps ++ e.steps) before.view ended.view after.view w.goes view;
+      none_exchanged = let first = h.none in let second = e.quiet.none in omega (arith, exchanges-append h.steps e.steps);
     }
 
 -- the node of the held record

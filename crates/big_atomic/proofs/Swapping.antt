@@ -54,9 +54,9 @@ right_full v q reg old new within was other few = right_at v q (Swap reg old new
     (sym (and_right (is_change (state_at v.seen q) (Swap reg old new)) false refl))
 
 -- an answer, after further steps
-pub answered_after : (reg : ℕ) (old new : List ℕ) (from l e n m f o L E N : ℕ) (answer : Answer) (a : List Counted) (u v w : SeatData) → Sound u.view → Runs reg a u v → Cost l e n a → l + m ≤ L → e + f ≤ E → n + o ≤ N
+pub answered_after : (reg : ℕ) (old new : List ℕ) (from l e n m f o L E N : ℕ) (answer : Answer) (a : List Counted) (u v w : SeatData) → Sound u.view → Runs reg a u v → Cost l e n a → (old ≡ new → e ≡ 0) → l + m ≤ L → e + f ≤ E → n + o ≤ N
     → ((need free : ℕ) → answer ≡ SwapFull need free → v.free ≡ [] → u.free ≡ []) → IsAnswered reg old new from m f o answer v w → IsAnswered reg old new from L E N answer u w
-answered_after reg old new from l e n m f o L E N answer a u v w sound r c low mid high none x =
+answered_after reg old new from l e n m f o L E N answer a u v w sound r c spared low mid high none x =
     let both = cost_then l m e f n o a x.steps c x.cost in
     let lost = both.few_lost in
     let once = both.few_exchanges in
@@ -66,13 +66,14 @@ answered_after reg old new from l e n m f o L E N answer a u v w sound r c low m
       steps = a ++ x.steps;
       ends = ends_after reg from (Swap reg old new) (swap_reply answer) x.stand a x.steps u v w sound r x.ends;
       cost = record { few_lost = omega arith; few_exchanges = omega arith; few = omega arith };
+      same = λ is. let none_first = spared is in let few_first = c.few_exchanges in let rest = x.same is in omega (arith, exchanges-append a x.steps);
       no = x.no;
       full = λ need free is. let y = x.full need free is in record { none_free = none need free is y.none_free; need_one = y.need_one; free_now = y.free_now; few = y.few };
     }
 
 -- an answer, after the claims were ended
 answered_ended : (reg : ℕ) (old new : List ℕ) (from : ℕ) (answer : Answer) (u v w : SeatData) → Sound u.view → HasEnded u v → IsAnswered reg old new from 0 0 0 answer v w → IsAnswered reg old new from 0 0 3 answer u w
-answered_ended reg old new from answer u v w sound e x = answered_after reg old new from 0 0 3 0 0 0 0 0 3 answer e.steps u v w sound (ended_runs u v e reg) (quiet_cost 3 e.steps e.quiet e.few) (omega arith) (omega arith) (omega arith)
+answered_ended reg old new from answer u v w sound e x = answered_after reg old new from 0 0 3 0 0 0 0 0 3 answer e.steps u v w sound (ended_runs u v e reg) (quiet_cost 3 e.steps e.quiet e.few) (λ is. refl) (omega arith) (omega arith) (omega arith)
     (λ need free is none. sym (ap (λ (z : SeatData). z.free) e.same) ∙ none) x
 
 -- NO
@@ -110,6 +111,7 @@ answered_no reg old new from seat stood c cleared u e sound =
       steps = [];
       ends = ends_stand reg from q (Swap reg old new) No seat stood cleared c.idle first.late (λ contents held. refl) (right_no seat.view q reg old new first.within first.unlike) e sound;
       cost = record { few_lost = omega arith; few_exchanges = omega arith; few = omega arith };
+      same = λ is. refl;
       no = λ is. record {
         unlike = λ same. false≢true (sym first.unlike ∙ same_from_words (register_at seat.view q reg) old (ap (λ (s : List Entry). (state_at s q).registers reg) (sym seen) ∙ same));
         before = λ p low high. ap (λ (s : List Entry). (state_at s p).registers reg) seen ∙ words_from_same (register_at seat.view p reg) old (first.before p low high);
@@ -151,6 +153,7 @@ answered_yes reg old new from seat stood c cleared was same e sound = record {
   steps = [];
   ends = ends_stand reg from (length seat.view.seen) (Swap reg old new) Yes seat stood cleared c.idle c.reached (λ contents held. refl) (right_yes seat.view (length seat.view.seen) reg old new (omega arith) was same) e sound;
   cost = record { few_lost = omega arith; few_exchanges = omega arith; few = omega arith };
+  same = λ is. refl;
   no = λ is. absurd cc;
   full = λ need free is. absurd cc;
 }
@@ -165,6 +168,7 @@ answered_full reg old new from seat stood c is cleared none was other e sound =
       ends = ends_stand reg from (length seat.view.seen) (Swap reg old new) (Full 1 0) seat stood cleared c.idle c.reached (λ contents held. refl)
           (right_full seat.view (length seat.view.seen) reg old new (omega arith) was other (few_nodes reg from seat c is no_free)) e sound;
       cost = record { few_lost = omega arith; few_exchanges = omega arith; few = omega arith };
+      same = λ is. refl;
       no = λ n. absurd cc;
       full = λ need free full. let needed : 1 ≡ need = cc in let zero_free : 0 ≡ free = cc in none_parts need free seat stood (stood_view (length seat.view.seen) (Swap reg old new) (Full 1 0) seat.view) no_free e needed zero_free;
     }
@@ -196,6 +200,7 @@ swapped reg look l e n old new answer steps before u v w room went tried free no
       full = λ need f is. whole_full reg look need f (Swap reg old new) (swap_reply answer) x.stand (steps ++ x.steps) before u v w room free tail (x.full need f is);
       one_lost = omega (arith, lost-append room.steps (steps ++ x.steps), lost-append steps x.steps);
       once = omega (arith, exchanges-append room.steps (steps ++ x.steps), exchanges-append steps x.steps);
+      same = λ is. let rest = x.same is in omega (arith, exchanges-append room.steps (steps ++ x.steps), exchanges-append steps x.steps);
       bound = omega (arith, length-append room.steps (steps ++ x.steps), length-append steps x.steps);
     }
 
@@ -204,6 +209,9 @@ module _ (reg from word node : ℕ) (old new : List ℕ) (u now : SeatData) (c :
     (r : IsPrepared node new u now) (sound : Sound now.view) where
   now_was : is_same (register_at now.view (length now.view.seen) reg) old ≡ true
   now_was = ap (λ (s : List Entry). is_same ((state_at s (length s)).registers reg) old) r.seen ∙ was
+
+  unequal : old ≢ new
+  unequal is = false≢true (sym other ∙ same_from_words old new is)
 
   pub may_try : length old ≡ WIDTH → length new ≡ WIDTH → MayExchange reg word node (Swap reg old new) now.view
   may_try old_wide new_wide = may_exchange reg word node (Swap reg old new) new now (prepared_claim reg from word node new u now c h r sound) r.mine r.own r.words
@@ -223,12 +231,13 @@ module _ (reg from word node : ℕ) (old new : List ℕ) (u now : SeatData) (c :
       let few = e.few in
       let lost = e.quiet.lost in
       let none = e.quiet.none in
-      answered_after reg old new from 0 0 (NODE_WIDTH + 2) 0 1 4 1 1 (NODE_WIDTH + 7) SwapYes r.steps u now ended c.sound (r.runs reg) (quiet_cost (NODE_WIDTH + 2) r.steps r.quiet r.few) (omega arith) (omega arith) (omega arith) (λ need free is. absurd cc)
+      answered_after reg old new from 0 0 (NODE_WIDTH + 2) 0 1 4 1 1 (NODE_WIDTH + 7) SwapYes r.steps u now ended c.sound (r.runs reg) (quiet_cost (NODE_WIDTH + 2) r.steps r.quiet r.few) (λ is. refl) (omega arith) (omega arith) (omega arith) (λ need free is. absurd cc)
       (record {
         stand = won_stand reg from word node (Swap reg old new) Yes now after ended inside refl claim reached held left sound won e replies (λ contents one. refl);
         steps = step ∷ e.steps;
         ends = ends_won reg from word node (Swap reg old new) Yes now after ended inside refl claim reached held left sound won e replies (λ contents one. refl);
         cost = record { few_lost = omega (arith, won_kept reg word node step.seen e.steps); few_exchanges = omega arith; few = omega arith };
+        same = λ is. absurd (unequal is);
         no = λ is. absurd cc;
         full = λ need free is. absurd cc;
       })
@@ -238,7 +247,7 @@ module _ (reg from word node : ℕ) (old new : List ℕ) (u now : SeatData) (c :
   answered_lost x after ended put stood ne sees sound_after e back sound_put a =
       answered_after reg old new from 1 1 (NODE_WIDTH + 6) 0 0 0 1 1 (NODE_WIDTH + 7) SwapNo (try_steps reg from word node new u now c h r sound x after ended put ne sees sound_after e back sound_put) u put stood c.sound
       (try_runs reg from word node new u now c h r sound x after ended put ne sees sound_after e back sound_put) (try_cost reg from word node new u now c h r sound x after ended put ne sees sound_after e back sound_put)
-      (omega arith) (omega arith) (omega arith) (λ need free is. absurd cc) a
+      (λ is. absurd (unequal is)) (omega arith) (omega arith) (omega arith) (λ need free is. absurd cc) a
 
   pub lost_unlike : (x : ℕ) (after ended put : SeatData) → x ≢ word → Sees (BackupExchange reg word node) reg x now after → Sound after.view → HasEnded after ended → IsPutBack node ended put → Sound put.view → IsUnlike reg old from put.view
   lost_unlike x after ended put ne sees sound_after e back sound_put =
@@ -255,7 +264,7 @@ module _ (reg from word : ℕ) (old new rec : List ℕ) (u v : SeatData) (c : Is
 
   read_answered : (m f o : ℕ) (answer : Answer) (w : SeatData) → m ≤ 1 → f ≤ 1 → o ≤ NODE_WIDTH + 7 → IsAnswered reg old new from m f o answer v w → IsAnswered reg old new from 1 1 (2 * NODE_WIDTH + 7) answer u w
   read_answered m f o answer w low mid high x = answered_after reg old new from 0 0 NODE_WIDTH m f o 1 1 (2 * NODE_WIDTH + 7) answer (read_steps reg from word rec u v c h r) u v w c.sound (read_runs reg from word rec u v c h r) (read_cost reg from word rec u v c h r)
-      (omega arith) (omega arith) (omega arith) (λ need free is none. sym (ap (λ (z : SeatData). z.free) r.read.same) ∙ none) x
+      (λ is. refl) (omega arith) (omega arith) (omega arith) (λ need free is none. sym (ap (λ (z : SeatData). z.free) r.read.same) ∙ none) x
 
   pub claimed_no : (answer : Answer) (w : SeatData) → IsAnswered reg old new from 0 0 3 answer v w → IsAnswered reg old new from 1 1 (2 * NODE_WIDTH + 7) answer u w
   claimed_no answer w x = read_answered 0 0 3 answer w (omega arith) (omega arith) (omega arith) x

@@ -98,6 +98,7 @@ pub record IsLoaded (reg : ℕ) (words : List ℕ) (before after : SeatData) : T
   pub left : IsLeft stand before after
   pub hold : HoldStays before after
   pub turns : TurnsAreChanges reg steps before.view after.view
+  pub none_exchanged : exchanges steps ≡ 0
 
 abbrev pub store_reply : Stored → Reply
 store_reply StoreDone = Done
@@ -136,6 +137,8 @@ pub record IsSwapped (reg : ℕ) (old new : List ℕ) (answer : Answer) (before 
   -- no further turn, one exchange at most, and a constant number of counted steps
   pub one_lost : lost_steps steps ≤ 1
   pub once : exchanges steps ≤ 1
+  -- where the two records are the same no exchange is tried
+  pub same : old ≡ new → exchanges steps ≡ 0
   pub bound : length steps ≤ 3 * NODE_WIDTH + CLAIMS * before.view.plan.seats + 16
 
 -- the register's record of the stand's place is held
@@ -146,6 +149,7 @@ pub record IsHeld (reg : ℕ) (before after : SeatData) : Type 0 where
   pub left : IsLeft stand before after
   pub holds : IsHolding (register_at after.view stand.place reg) after.view
   pub turns : TurnsAreChanges reg steps before.view after.view
+  pub none_exchanged : exchanges steps ≡ 0
 
 -- a look at the held record was answered with it, whatever was stored since
 pub record IsLooked (words : List ℕ) (before after : SeatData) : Type 0 where

@@ -143,6 +143,7 @@ pub record IsAnswered (reg : ℕ) (old new : List ℕ) (from lost once most : �
   pub steps : List Counted
   pub ends : Ends reg from (Swap reg old new) (swap_reply answer) stand steps before after
   pub cost : Cost lost once most steps
+  pub same : old ≡ new → exchanges steps ≡ 0
   pub no : answer ≡ SwapNo → IsFirstUnlike reg old from stand.place after.view
   pub full : (need free : ℕ) → answer ≡ SwapFull need free → IsNoneFree need free before after
 
