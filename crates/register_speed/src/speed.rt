@@ -1,6 +1,6 @@
 //! Threads that store and load.
 ghost use Rattle.std.specs.Prelude.{◌≡◌, All, IfOk, IfSome};
-ghost use Rattle.register_speed.specs.Ready.{IsReady};
+ghost use Rattle.big_atomic.specs.Ready.{IsReady};
 ghost use Rattle.step_rules.specs.Layout.{IsPlan};
 ghost use Rattle.step_rules.specs.SeatData.{IsOf};
 

@@ -1,4 +1,4 @@
-use Rattle.register_speed.specs.Ready.{IsReady}
+use Rattle.big_atomic.specs.Ready.{IsReady}
 use Rattle.register_speed.proofs.speed.calls.Given as goal
 
 abbrev pub invariant-loop-i : goal.invariant-loop-i
