@@ -1,12 +1,11 @@
 -- What is wrong with a line.
 use Rattle.std.specs.Prelude.{Err}
-use Rattle.std.proofs.Common.{◌≡◌, ℕ, ◌<◌, ◌≤◌, List, ◌∷◌, sym, subst, arith}
-use Rattle.seat_history.specs.Object.{Object, NamesBelow}
-use Rattle.seat_history.specs.declared.call.Call.{Call}
+use Rattle.std.proofs.Common.{◌≡◌, ℕ, List, ◌∷◌, sym, subst}
+use Rattle.seat_history.specs.Object.{Object}
 use Rattle.seat_history.specs.declared.entry.Entry.{Entry}
 use Rattle.call_script.specs.Cut.{words_of}
 use Rattle.call_script.specs.Form.{ReadsCall}
-use Rattle.call_script.specs.Line.{AreCallWords, SpellsEntry, SpellsWords, IsInRange, HasCause}
+use Rattle.call_script.specs.Line.{AreCallWords, SpellsEntry, SpellsWords, HasCause}
 use Rattle.call_script.specs.Number.{IsNumber}
 use Rattle.call_script.specs.Spelling.{SpellsCall}
 use Rattle.call_script.specs.declared.bad_script.LineCause.{LineCause}

@@ -1,9 +1,8 @@
 -- The words of a form are those of a call.
 use Rattle.std.proofs.Common.{◌≡◌, ℕ, ◌<◌, List, [], ◌∷◌, length, refl, sym, subst, arith}
-use Rattle.seat_history.specs.declared.call.Call.{Call}
 use Rattle.seat_history.specs.declared.call.Call.TheVariants as call
 use Rattle.seat_history.specs.declared.key.KeyWords.{KeyWords}
-use Rattle.call_script.specs.Form.{words_behind, words_in}
+use Rattle.call_script.specs.Form.{words_in}
 use Rattle.call_script.specs.Line.{AreFull, AreCallWords, AreFirstWords}
 use Rattle.call_script.specs.Spelling.{HasCallWords}
 use Rattle.call_script.specs.declared.form.Form.{Form}

@@ -4,6 +4,7 @@ pub mod Numbers
 pub mod Tuples
 pub mod Zips
 pub mod Forms
+pub mod Orders
 pub mod Spelled
 pub mod Causes
 pub mod SoFar

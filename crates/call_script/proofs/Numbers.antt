@@ -1,15 +1,15 @@
 -- A number's text is read as that number, and no other text is.
-use Rattle.std.specs.Prelude.{◌&&◌, ◌⊎◌, IfNone, IfSome, if◌then◌else◌, nat_lt}
+use Rattle.std.specs.Prelude.{◌&&◌, IfNone, IfSome, if◌then◌else◌, nat_lt}
 use Rattle.std.specs.Char.{is_ascii_digit}
 use Rattle.std.specs.Fmt.{decimal}
 use Rattle.std.specs.List.{list_all}
 use Rattle.std.specs.Str.Parse.{digits_value}
-use Rattle.std.proofs.Common.{◌≡◌, ◌≢◌, ◌∙◌, ℕ, ◌+◌, ◌%◌, ◌^◌, ◌<◌, ◌≤◌, Bool, true, false, ap, refl, sym, subst, Option, Some, None, List, [], ◌∷◌, ◌++◌, length, get_or, arith, rules, inl, inr}
+use Rattle.std.proofs.Common.{◌≡◌, ◌≢◌, ◌∙◌, ℕ, ◌+◌, ◌%◌, ◌^◌, ◌<◌, ◌≤◌, Bool, true, false, ap, refl, sym, Option, Some, None, List, [], ◌∷◌, length, get_or, arith, rules, inl, inr}
 use Rattle.std.proofs.lemmas.Bool.{false≢true, cases_lt}
 use Rattle.std.proofs.lemmas.Bool.Decides.{nat_tests}
 use Rattle.std.proofs.lemmas.Fmt.{decimal_is_IsNumeral, decimal_by_steps, decimal_nonempty, decimal_digit, first_decimal, decimal_injective, decimal-digits_value}
 use Rattle.std.proofs.lemmas.List.Folds.{list_all-append}
-use Rattle.std.proofs.lemmas.Str.Parse.{IsNumeralModel, IsDigitsTest, numerals_by_value}
+use Rattle.std.proofs.lemmas.Str.Parse.{IsNumeralModel, numerals_by_value}
 use Rattle.call_script.specs.Digits.{read_digits}
 use Rattle.call_script.specs.Number.{IsNumber}
 use Rattle.call_script.proofs.ReadDigits.{some_read}

@@ -1,6 +1,6 @@
 -- Words spell one call at most.
 use Rattle.std.specs.Prelude.{codes, replicate}
-use Rattle.std.specs.List.{AllZip, AllByRecursion}
+use Rattle.std.specs.List.{AllZip}
 use Rattle.std.proofs.Common.{◌≡◌, ◌∙◌, ℕ, ◌-◌, ◌<◌, List, [], ◌∷◌, ◌++◌, length, refl, sym, ap, subst, arith}
 use Rattle.std.proofs.lemmas.Fmt.{decimal_nonempty}
 use Rattle.seat_history.specs.declared.call.Call.{Call}
@@ -11,7 +11,7 @@ use Rattle.seat_history.specs.declared.words.TheConstants.{WIDTH, VALUE_WIDTH}
 use Rattle.call_script.specs.Cut.{parts_at, words_of}
 use Rattle.call_script.specs.Line.{AreFull, AreCallWords, SpellsEntry, SpellsWords}
 use Rattle.call_script.specs.Number.{IsNumber, IsTuple}
-use Rattle.call_script.specs.Spelling.{Field, One, UpTo, IsField, IsKey, SpellsCall, HasCallWords, name_of, fields_of}
+use Rattle.call_script.specs.Spelling.{Field, One, UpTo, IsField, IsKey, SpellsCall, name_of, fields_of}
 use Rattle.call_script.proofs.Numbers.{one_number}
 use Rattle.call_script.proofs.Spelled.{load_words, store_words, swap_words, hold_words, look_words, drop_words, find_words, insert_words, replace_words, remove_words}
 use Rattle.call_script.proofs.Zips.{zip_length, zip_one}

@@ -1,7 +1,6 @@
 -- Lines read as one thing at most.
 use Rattle.std.specs.Prelude.{IfSome, codes}
-use Rattle.std.specs.List.{AllZip}
-use Rattle.std.proofs.Common.{◌≡◌, ◌≢◌, ◌∙◌, ◌⊎◌, ℕ, zero, suc, ◌+◌, ◌<◌, ◌≤◌, Option, Some, None, List, [], ◌∷◌, length, take, get_or, refl, sym, ap, subst, arith, inl, inr}
+use Rattle.std.proofs.Common.{◌≡◌, ◌∙◌, ℕ, zero, suc, ◌+◌, ◌<◌, ◌≤◌, Option, Some, None, List, [], ◌∷◌, length, take, get_or, refl, sym, ap, subst, arith, inl, inr}
 use Rattle.std.proofs.lemmas.Bool.{cases_lt}
 use Rattle.std.proofs.lemmas.List.{take_all, take-take, length-take, get_or-take}
 use Rattle.seat_history.specs.History.{object_from}
@@ -14,7 +13,6 @@ use Rattle.call_script.specs.Number.{IsNumber}
 use Rattle.call_script.specs.Script.{MayRun, IsScript, IsBadCall, IsOneMore, Reading, Good, Bad, Many, ReadAs}
 use Rattle.call_script.specs.declared.bad_script.LineCause.{LineCause}
 use Rattle.call_script.specs.declared.bad_script.LineCause.TheVariants.{Words, Number, Range, Held}
-use Rattle.call_script.specs.declared.script.TheConstants.{MOST_LINES}
 use Rattle.call_script.proofs.Numbers.{one_number}
 use Rattle.call_script.proofs.OneCall.{number_full, one_entry, spelled_words}
 use Rattle.call_script.proofs.Zips.{zip_at, zip_length, zip_one, zip_take}

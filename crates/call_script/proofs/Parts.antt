@@ -1,8 +1,7 @@
 -- Bytes cut at one byte.
 use Rattle.std.specs.Prelude.{nat_lt, position, ◌==◌}
-use Rattle.std.specs.List.{slice_split, position_or_len, before_first, after_first, All}
-use Rattle.std.proofs.Common.{◌≡◌, ◌≢◌, ◌∙◌, ℕ, ◌+◌, ◌-◌, ◌<◌, ◌≤◌, Bool, true, false, cond, Option, Some, None, List, [], ◌∷◌, length, take, drop, get_or, refl, sym, ap, ap₂, inl, inr, arith}
-use Rattle.std.proofs.lemmas.Bool.{cases_lt}
+use Rattle.std.specs.List.{slice_split, position_or_len}
+use Rattle.std.proofs.Common.{◌≡◌, ◌∙◌, ℕ, ◌+◌, ◌-◌, ◌<◌, ◌≤◌, Bool, cond, Some, None, List, [], ◌∷◌, length, take, drop, sym, ap, ap₂, arith}
 use Rattle.std.proofs.lemmas.Bool.Decides.{nat_tests}
 use Rattle.std.proofs.lemmas.List.{take_all, drop-drop, length-drop}
 use Rattle.std.proofs.lemmas.List.Quantifiers.{position-Some}

@@ -1,8 +1,8 @@
 -- A script read line by line.
 use Rattle.std.specs.Prelude.{is_some}
 use Rattle.std.specs.List.{AllZip}
-use Rattle.std.proofs.Common.{◌≡◌, ◌∙◌, ℕ, ◌+◌, ◌<◌, ◌≤◌, List, [], ◌∷◌, ◌++◌, length, take, drop, get_or, refl, sym, ap, subst, arith, length-append, false, replicate}
-use Rattle.std.proofs.lemmas.List.{take_more, take_all, length-drop}
+use Rattle.std.proofs.Common.{◌≡◌, ◌∙◌, ℕ, ◌+◌, ◌<◌, ◌≤◌, List, [], ◌∷◌, ◌++◌, length, take, drop, refl, sym, ap, subst, arith, length-append, false, replicate}
+use Rattle.std.proofs.lemmas.List.{take_more, length-drop}
 use Rattle.seat_history.proofs.Blank.{get_or_replicate_same}
 use Rattle.seat_history.specs.History.{object_from}
 use Rattle.seat_history.specs.Object.{Object, MayCall, blank_object, object_after}

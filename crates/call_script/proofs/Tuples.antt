@@ -1,7 +1,7 @@
 -- A tuple read number by number.
-use Rattle.std.specs.Prelude.{replicate, slice_set}
+use Rattle.std.specs.Prelude.{replicate}
 use Rattle.std.specs.List.{AllZip}
-use Rattle.std.proofs.Common.{◌≡◌, ◌∙◌, ℕ, zero, suc, ◌+◌, ◌-◌, ◌<◌, ◌≤◌, List, [], ◌∷◌, ◌++◌, length, take, drop, get_or, set, refl, sym, ap, ap₂, subst, arith}
+use Rattle.std.proofs.Common.{◌≡◌, ◌∙◌, ℕ, zero, suc, ◌+◌, ◌-◌, ◌<◌, ◌≤◌, List, [], ◌∷◌, ◌++◌, length, take, drop, get_or, set, sym, ap, subst, arith}
 use Rattle.std.proofs.lemmas.List.{take-append-drop, take_all, length-take, length-drop, take_more, take_more_set, drop-set-lt, drop-drop, drop-replicate}
 use Rattle.call_script.specs.Cut.{parts_at}
 use Rattle.call_script.specs.Number.{IsNumber, IsTuple}

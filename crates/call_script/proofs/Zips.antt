@@ -1,6 +1,6 @@
 -- Two lists side by side.
 use Rattle.std.specs.List.{AllZip}
-use Rattle.std.proofs.Common.{◌≡◌, ℕ, zero, suc, ◌+◌, ◌<◌, ◌≤◌, List, [], ◌∷◌, ◌++◌, length, take, drop, get_or, refl, ap, arith, add-one}
+use Rattle.std.proofs.Common.{◌≡◌, ℕ, zero, suc, ◌<◌, List, [], ◌∷◌, ◌++◌, length, take, get_or, refl, ap, arith}
 
 module _ {A B : Type 0} (R : A → B → Type 0) where
   pub zip_length : (xs : List A) (ys : List B) → AllZip R xs ys → length xs ≡ length ys

@@ -1,5 +1,5 @@
 ghost use Rattle.std.specs.Prelude.{◌≡◌, ◌≤◌, ◌<◌, IfOk, OnOk};
-ghost use Rattle.call_script.specs.Run.{IsPlainRun, registers_in};
+ghost use Rattle.call_script.specs.Run.{IsRun, registers_in};
 ghost use Rattle.call_script.specs.Script.{MayRun};
 ghost use Rattle.seat_history.specs.History.{object_from, replies_from};
 ghost use Rattle.seat_history.specs.Object.{blank_object};
@@ -45,11 +45,11 @@ fn all_registers(alloc: Global, plain: &Plain) -> Result<Vec<Rec>, NoMemory>
     Ok(registers)
 }
 
-/// Calls the lines of a script on the object of one thread, in the script's order.
+/// Calls the lines of a script on the object of one thread.
 pub fn run_plain(alloc: Global, script: &Script) -> Result<Driven, NoMemory>
     requires callers { script.now.callers ≤ CALLERS }
     requires may { MayRun script.now.callers blank_object script.now.lines }
-    ensures { IfOk result (λ driven. IsPlainRun script.now.lines driven) }
+    ensures { IfOk result (λ driven. IsRun script.now.lines driven) }
 {
     let mut plain = Plain::new(alloc, REGISTERS)?;
     let replies = call_all(alloc, &mut plain, script.callers, script.lines.as_slice())?;

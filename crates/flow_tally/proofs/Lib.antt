@@ -9,6 +9,5 @@ pub mod OutcomeReport
 pub mod Outcomes
 pub mod Parse
 pub mod Rules
-pub mod ScriptRuns
 pub mod Tallies
 pub mod Told

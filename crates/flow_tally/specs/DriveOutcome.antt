@@ -11,7 +11,7 @@ use Rattle.call_script.specs.declared.bad_script.BadScript.{BadScript as ScriptF
 use Rattle.call_script.specs.declared.driven.Driven.{Driven}
 use Rattle.flow_tally.specs.Input.{most_bytes, FeedShown, IsBytesOf, IsFirstTooLarge, RefusesFiles}
 use Rattle.flow_tally.specs.OutShown.{OutShown, IsUntouched}
-use Rattle.flow_tally.specs.ScriptRun.{IsRun}
+use Rattle.call_script.specs.Run.{IsRun}
 use Rattle.flow_tally.specs.Words.{Drive}
 use Rattle.flow_tally.specs.declared.status.Status.{Status}
 use Rattle.flow_tally.specs.declared.status.Status.TheVariants.{Done, WriteFault, BadDatagram, InputTooLarge, BadScript, NoMemory}

@@ -5,7 +5,6 @@ pub mod Numbers
 pub mod OutShown
 pub mod Outcome
 pub mod Reading
-pub mod ScriptRun
 pub mod Status
 pub mod Tallied
 pub mod Telling

@@ -6,9 +6,8 @@ ghost use Rattle.flow_tally.specs.Words.{drive_in};
 use crate::drive_words::DriveWords;
 use crate::input::{MOST_BYTES, read_file};
 use crate::output::write_output;
-use crate::script_run::run_script;
 use crate::status::Status;
-use call_script::{BadScript, read_script, write_replies};
+use call_script::{BadScript, read_script, run_plain, write_replies};
 use std::alloc::Global;
 use wire_ports::{Feed, Sink};
 
@@ -21,7 +20,7 @@ fn script_text(alloc: Global, bytes: &[u8]) -> Result<Vec<u8>, Status>
         Err(BadScript::NoMemory) => return Err(Status::NoMemory),
         Err(cause) => return Err(Status::BadScript { cause }),
     };
-    let Ok(driven) = run_script(alloc, &script) else {
+    let Ok(driven) = run_plain(alloc, &script) else {
         return Err(Status::NoMemory);
     };
     match write_replies(alloc, &driven) {

@@ -7,7 +7,6 @@ mod input;
 mod message;
 mod numbers;
 mod output;
-mod script_run;
 mod status;
 mod tallied;
 mod tally;

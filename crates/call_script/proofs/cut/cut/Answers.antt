@@ -1,7 +1,6 @@
 use Rattle.std.specs.Prelude.{◌==◌}
-use Rattle.std.proofs.Common.{◌≡◌, ◌∙◌, ℕ, List, ◌∷◌, ◌-◌, take, drop, length, ap, sym, arith, rules, refl}
-use Rattle.call_script.specs.Cut.{parts_at}
-use Rattle.call_script.proofs.Parts.{split_none, split_some, rest_of}
+use Rattle.std.proofs.Common.{sym}
+use Rattle.call_script.proofs.Parts.{split_none, rest_of}
 use Rattle.call_script.proofs.cut.cut.Goals as goal
 
 pub returns-in-None : goal.returns-in-None

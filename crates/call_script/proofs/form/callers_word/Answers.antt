@@ -1,5 +1,5 @@
 use Rattle.std.specs.Prelude.{option_map}
-use Rattle.std.proofs.Common.{◌≡◌, ◌∙◌, List, ℕ, ◌∷◌, ap}
+use Rattle.std.proofs.Common.{◌≡◌, ◌∙◌, ◌∷◌, ap}
 use Rattle.call_script.specs.Cut.{parts_at, parts_in, words_of}
 use Rattle.call_script.proofs.Forms.{more_words}
 use Rattle.call_script.proofs.Parts.{parts_some}

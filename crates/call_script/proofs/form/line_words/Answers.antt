@@ -1,7 +1,7 @@
 use Rattle.std.specs.Prelude.{option_map}
-use Rattle.std.proofs.Common.{◌≡◌, ◌∙◌, List, ℕ, ◌∷◌, ap}
+use Rattle.std.proofs.Common.{◌≡◌, ◌∙◌, ◌∷◌, ap}
 use Rattle.call_script.specs.Cut.{parts_in, words_of}
-use Rattle.call_script.specs.Form.{words_behind, words_in}
+use Rattle.call_script.specs.Form.{words_behind}
 use Rattle.call_script.proofs.Forms.{line_form}
 use Rattle.call_script.proofs.form.line_words.Goals as goal
 

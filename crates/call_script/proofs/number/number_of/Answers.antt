@@ -1,4 +1,4 @@
-use Rattle.std.proofs.Common.{◌≡◌, ◌≤◌, ℕ, length, get_or, arith}
+use Rattle.std.proofs.Common.{◌≡◌, length, get_or}
 use Rattle.call_script.proofs.Numbers.{plain_number, short_plain, reads_numbers, reads_no_number}
 use Rattle.call_script.proofs.number.number_of.Goals as goal
 use Rattle.call_script.proofs.number.number_of.Goals.{else-text-gt1-via-then-text-gt1+else-text-eq48, else-text-gt1-via-else-text-gt1}

@@ -1,6 +1,6 @@
 use Rattle.std.specs.Prelude.{option_map}
-use Rattle.std.proofs.Common.{◌≡◌, ◌∙◌, ℕ, ◌+◌, ◌<◌, ◌≤◌, List, [], ◌∷◌, Option, Some, None, length, take, drop, ap, sym, arith, length-set}
-use Rattle.call_script.specs.Cut.{parts_at, parts_in}
+use Rattle.std.proofs.Common.{◌∙◌, ℕ, [], ap, arith, length-set}
+use Rattle.call_script.specs.Cut.{parts_in}
 use Rattle.call_script.proofs.Tuples.{drop_first, tuple_read, tuple_long, tuple_broken, tuple_more, zeros_more}
 use Rattle.call_script.proofs.number.tuple_of.Goals as goal
 

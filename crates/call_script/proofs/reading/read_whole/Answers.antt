@@ -1,4 +1,4 @@
-use Rattle.std.proofs.Common.{◌≡◌, ◌∙◌, ap, sym, subst, List, ℕ}
+use Rattle.std.proofs.Common.{◌∙◌, ap, sym, subst}
 use Rattle.call_script.specs.Cut.{parts_at}
 use Rattle.call_script.specs.Script.{Good, ReadAs}
 use Rattle.call_script.proofs.reading.read_whole.Goals as goal

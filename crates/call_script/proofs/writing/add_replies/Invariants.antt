@@ -1,6 +1,6 @@
 use Rattle.call_script.specs.Text.{reply_line}
 use Rattle.std.specs.List.{flat_map}
-use Rattle.std.proofs.Common.{◌≡◌, ◌++◌, ◌∷◌, take}
+use Rattle.std.proofs.Common.{◌≡◌, ◌++◌, take}
 use Rattle.call_script.proofs.writing.add_replies.Given as goal
 
 abbrev pub invariant-loop-reply : goal.invariant-loop-reply

@@ -1,5 +1,4 @@
-use Rattle.std.proofs.Common.{◌≡◌, ◌+◌, ◌≤◌, take, sym, subst, arith}
-use Rattle.call_script.specs.Text.{trimmed}
+use Rattle.std.proofs.Common.{arith}
 use Rattle.call_script.proofs.Texts.{trimmed_more_zero, trimmed_more_word}
 use Rattle.call_script.proofs.writing.trimmed_count.Goals as goal
 use Rattle.call_script.proofs.writing.trimmed_count.Goals.{then-word-ne0, else-word-ne0}
