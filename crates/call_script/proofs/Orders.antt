@@ -2,7 +2,7 @@
 use Rattle.std.specs.Prelude.{slice_get}
 use Rattle.std.specs.List.{range_with_len}
 use Rattle.std.specs.List.Sorted.{IsStrictlyIncreasing}
-use Rattle.std.proofs.Common.{◌≡◌, ◌∙◌, ℕ, ◌+◌, Some, List, [], ◌∷◌, ◌++◌, length, append_assoc, refl, sym, ap, subst, arith}
+use Rattle.std.proofs.Common.{All, ◌≡◌, ◌∙◌, ℕ, ◌+◌, Some, List, [], ◌∷◌, ◌++◌, length, append_assoc, refl, sym, ap, subst, arith}
 use Rattle.std.proofs.lemmas.List.{length-append}
 use Rattle.std.proofs.lemmas.List.FromFn.{get_or-range_with_len, length-range_with_len}
 use Rattle.std.proofs.lemmas.List.Kept.{IsStrictlyIncreasing-filter}
@@ -10,7 +10,7 @@ use Rattle.std.proofs.lemmas.List.Sorted.{IsPermutation-refl}
 use Rattle.seat_history.proofs.Histories.{length-replies_from}
 use Rattle.seat_history.specs.History.{object_from, replies_from}
 use Rattle.seat_history.specs.Object.{blank_object}
-use Rattle.seat_history.specs.Pairs.{ArePairsOf}
+use Rattle.seat_history.specs.Pairs.{ArePairsOf, IsPairInRange}
 use Rattle.seat_history.specs.declared.entry.Entry.{Entry}
 use Rattle.call_script.specs.Run.{IsOrderOf, IsRun, is_line_of, items_at, registers_in}
 use Rattle.call_script.specs.declared.driven.Driven.{Driven}
@@ -46,8 +46,8 @@ script_order lines = record {
 
 -- what comes of the lines in the script's own order
 pub run_in_script_order : (lines : List Entry) (driven : Driven) → driven.replies ≡ replies_from blank_object lines
-    → driven.registers ≡ registers_in (object_from blank_object lines) REGISTERS → ArePairsOf (object_from blank_object lines).contents.values driven.pairs → IsRun lines driven
-run_in_script_order lines driven replies registers pairs =
+    → driven.registers ≡ registers_in (object_from blank_object lines) REGISTERS → ArePairsOf (object_from blank_object lines).contents.values driven.pairs → All IsPairInRange driven.pairs → IsRun lines driven
+run_in_script_order lines driven replies registers pairs in_range =
     let count : length driven.replies ≡ length lines = ap length replies ∙ length-replies_from blank_object lines in
     let whole = all_items lines (length lines) refl in (
       range_with_len 0 (length lines),
@@ -57,5 +57,6 @@ run_in_script_order lines driven replies registers pairs =
         replies = all_items driven.replies (length lines) (sym count) ∙ replies ∙ ap (replies_from blank_object) (sym whole);
         registers = registers ∙ ap (λ (es : List Entry). registers_in (object_from blank_object es) REGISTERS) (sym whole);
         pairs = subst (λ (es : List Entry). ArePairsOf (object_from blank_object es).contents.values driven.pairs) (sym whole) pairs;
+        in_range = in_range;
       },
     )

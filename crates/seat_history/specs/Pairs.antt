@@ -1,5 +1,5 @@
 -- A finite map as its pairs in a row.
-use Rattle.std.specs.Prelude.{◌≡◌, ℕ, ◌==◌, List, Option, map}
+use Rattle.std.specs.Prelude.{◌≡◌, ℕ, ◌<◌, ◌^◌, ◌==◌, All, List, Option, map}
 use Rattle.std.specs.List.Sorted.{IsStrictlyIncreasing}
 use Rattle.std.specs.Map.{lookup, keys_of}
 use Rattle.seat_history.specs.Key.{key_number}
@@ -21,3 +21,9 @@ value_in pairs number = lookup (λ key. key_number key == number) pairs
 pub record ArePairsOf (values : ℕ → Option (List ℕ)) (pairs : Pairs) : Type 0 where
   pub rising : HasRisingKeys pairs
   pub whole : (number : ℕ) → value_in pairs number ≡ values number
+
+-- the words of the key and of the value are below 2^64
+pub record IsPairInRange (pair : KeyWords × List ℕ) : Type 0 where
+  pub k0 : pair.0.k0 < 2 ^ 64
+  pub k1 : pair.0.k1 < 2 ^ 64
+  pub value : All (λ word. word < 2 ^ 64) pair.1

@@ -1,8 +1,8 @@
 // The pairs of the object of one thread, by the keys' numbers.
-ghost use Rattle.std.specs.Prelude.{◌≡◌, IfOk, OnOk, OnErr, Some, None};
+ghost use Rattle.std.specs.Prelude.{◌≡◌, All, IfOk, OnOk, OnErr, Some, None};
 ghost use Rattle.std.specs.Option.{option_map_or};
 ghost use Rattle.seat_history.specs.Key.{key_number};
-ghost use Rattle.seat_history.specs.Pairs.{ArePairsOf};
+ghost use Rattle.seat_history.specs.Pairs.{ArePairsOf, IsPairInRange};
 ghost use Rattle.seat_history.specs.Plain.{values_of};
 ghost use Rattle.seat_history.specs.Step.{replace_reply, values_after};
 ghost use Rattle.seat_history.specs.declared.call.Call.TheVariants.{Insert, Replace, Remove};
@@ -72,12 +72,21 @@ pub(crate) fn remove(map: &mut Map, key: KeyWords) -> Reply
     }
 }
 
+fn pair_of(number: u128, val: ValWords) -> (KeyWords, ValWords)
+    ensures key { key_number result.0 ≡ number }
+    ensures value { result.1 ≡ val }
+    ensures in_range { IsPairInRange result }
+{
+    (KeyWords::of_number(number), val)
+}
+
 pub(crate) fn pairs_of(alloc: Global, map: &Map) -> Result<Vec<(KeyWords, ValWords)>, AllocError>
-    ensures { IfOk result (λ pairs. ArePairsOf (values_of map.now) pairs.items) }
+    ensures pairs { IfOk result (λ pairs. ArePairsOf (values_of map.now) pairs.items) }
+    ensures in_range { IfOk result (λ pairs. All IsPairInRange pairs.items) }
 {
     let mut pairs = Vec::with_capacity(alloc, map.len())?;
     for (number, val) in map {
-        pairs.push((KeyWords::of_number(*number), *val))?;
+        pairs.push(pair_of(*number, *val))?;
     }
     Ok(pairs)
 }

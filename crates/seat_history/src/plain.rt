@@ -1,6 +1,6 @@
-ghost use Rattle.std.specs.Prelude.{◌≡◌, ◌<◌, IfOk, OnOk, OnErr};
+ghost use Rattle.std.specs.Prelude.{◌≡◌, ◌<◌, All, IfOk, OnOk, OnErr};
 ghost use Rattle.seat_history.specs.Object.{blank_object, object_after, reply_in, MayCall, NamesBelow};
-ghost use Rattle.seat_history.specs.Pairs.{ArePairsOf};
+ghost use Rattle.seat_history.specs.Pairs.{ArePairsOf, IsPairInRange};
 ghost use Rattle.seat_history.specs.Plain.{held_of, object_of, register_count};
 
 use crate::call::Call;
@@ -89,7 +89,8 @@ impl Plain {
 
     /// The pairs of the map, by rising key.
     pub fn pairs(&self, alloc: Global) -> Result<PairList, NoMemory>
-        ensures { IfOk result (λ pairs. ArePairsOf (object_of self.now).contents.values pairs) }
+        ensures pairs { IfOk result (λ pairs. ArePairsOf (object_of self.now).contents.values pairs) }
+        ensures in_range { IfOk result (λ pairs. All IsPairInRange pairs) }
     {
         Ok(PairList::of_vec(map::pairs_of(alloc, &self.map)?))
     }

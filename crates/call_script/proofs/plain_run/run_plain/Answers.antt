@@ -18,4 +18,4 @@ returns c =
     let replies = c.of_vec.ensures ∙ c.in_ok-replies.ensures.replies ∙ ap (λ (o : Object). replies_from o c.as_slice.result.now) blank ∙ ap (replies_from blank_object) c.as_slice.ensures in
     run_in_script_order lines driven replies
     (c.of_vec-2.ensures ∙ c.in_ok-all_registers.ensures ∙ ap (λ (o : Object). registers_in o REGISTERS) object)
-    (subst (λ (o : Object). ArePairsOf o.contents.values driven.pairs) object c.in_ok-pairs.ensures)
+    (subst (λ (o : Object). ArePairsOf o.contents.values driven.pairs) object c.in_ok-pairs.ensures.pairs) c.in_ok-pairs.ensures.in_range
