@@ -14,7 +14,6 @@ use Rattle.seat_history.specs.Pairs.{ArePairsOf, IsPairInRange}
 use Rattle.seat_history.specs.declared.entry.Entry.{Entry}
 use Rattle.call_script.specs.Run.{IsOrderOf, IsRun, is_line_of, items_at, registers_in}
 use Rattle.call_script.specs.declared.driven.Driven.{Driven}
-use Rattle.call_script.specs.declared.script.TheConstants.{REGISTERS}
 
 get_behind : {X : Type 0} (front : List X) (x : X) (back : List X) → slice_get (front ++ x ∷ back) (length front) ≡ Some x
 get_behind [] x back = refl
@@ -46,7 +45,7 @@ script_order lines = record {
 
 -- what comes of the lines in the script's own order
 pub run_in_script_order : (lines : List Entry) (driven : Driven) → driven.replies ≡ replies_from blank_object lines
-    → driven.registers ≡ registers_in (object_from blank_object lines) REGISTERS → ArePairsOf (object_from blank_object lines).contents.values driven.pairs → All IsPairInRange driven.pairs → IsRun lines driven
+    → driven.registers ≡ registers_in (object_from blank_object lines) 16 → ArePairsOf (object_from blank_object lines).contents.values driven.pairs → All IsPairInRange driven.pairs → IsRun lines driven
 run_in_script_order lines driven replies registers pairs in_range =
     let count : length driven.replies ≡ length lines = ap length replies ∙ length-replies_from blank_object lines in
     let whole = all_items lines (length lines) refl in (
@@ -55,7 +54,7 @@ run_in_script_order lines driven replies registers pairs in_range =
       record {
         each_replied = count;
         replies = all_items driven.replies (length lines) (sym count) ∙ replies ∙ ap (replies_from blank_object) (sym whole);
-        registers = registers ∙ ap (λ (es : List Entry). registers_in (object_from blank_object es) REGISTERS) (sym whole);
+        registers = registers ∙ ap (λ (es : List Entry). registers_in (object_from blank_object es) 16) (sym whole);
         pairs = subst (λ (es : List Entry). ArePairsOf (object_from blank_object es).contents.values driven.pairs) (sym whole) pairs;
         in_range = in_range;
       },

@@ -12,7 +12,6 @@ use Rattle.call_script.specs.Holding.{TellsHolders}
 use Rattle.call_script.specs.Line.{HasCause, IsInRange, MayHaveCallers, NamesCallers, SpellsEntry}
 use Rattle.call_script.specs.Script.{MayRun, IsScript, IsBadCall, IsOneMore}
 use Rattle.call_script.specs.declared.bad_script.LineCause.{LineCause}
-use Rattle.call_script.specs.declared.script.TheConstants.{MOST_LINES}
 use Rattle.call_script.proofs.Parts.{parts_some}
 use Rattle.call_script.proofs.Tuples.{drop_first, drop_nothing}
 use Rattle.call_script.proofs.Zips.{zip_push}
@@ -21,7 +20,7 @@ use Rattle.call_script.proofs.Zips.{zip_push}
 pub record IsReadSoFar (callers : ℕ) (all : List (List ℕ)) (entries : List Entry) : Type 0 where
   pub spelled : AllZip SpellsEntry (take (length entries) all) entries
   pub may : MayRun callers blank_object entries
-  pub few : length entries ≤ MOST_LINES
+  pub few : length entries ≤ 65536
 
 pub MayRun-push : (callers : ℕ) (object : Object) (entries : List Entry) (entry : Entry) → MayRun callers object entries → IsInRange callers entry → MayCall ((object_from object entries).held entry.caller) entry.call → MayRun callers object (entries ++ entry ∷ [])
 MayRun-push callers object [] entry may range call = (range, call, tt)
@@ -38,7 +37,7 @@ pub no_holders : (n : ℕ) (entries : List Entry) → entries ≡ [] → TellsHo
 no_holders n entries none caller = get_or_replicate_same n caller false ∙ ap (λ (es : List Entry). is_some ((object_from blank_object es).held caller)) (sym none)
 
 module _ (callers : ℕ) (all : List (List ℕ)) (entries : List Entry) (read : IsReadSoFar callers all entries) where
-  pub read_more : (line : List ℕ) (more : List (List ℕ)) (entry : Entry) → drop (length entries) all ≡ line ∷ more → length entries < MOST_LINES
+  pub read_more : (line : List ℕ) (more : List (List ℕ)) (entry : Entry) → drop (length entries) all ≡ line ∷ more → length entries < 65536
       → SpellsEntry line entry → IsInRange callers entry → MayCall ((object_from blank_object entries).held entry.caller) entry.call → IsReadSoFar callers all (entries ++ entry ∷ [])
   read_more line more entry left room spells range call =
       let next = drop_first all (length entries) line [] more left in
@@ -61,7 +60,7 @@ module _ (callers : ℕ) (all : List (List ℕ)) (entries : List Entry) (read : 
     pub whole_script : drop (length entries) all ≡ [] → IsScript first all callers entries
     whole_script left = subst (λ lines. IsScript first lines callers entries) (drop_nothing all (length entries) left) front_script
 
-    pub bad_here : (line : List ℕ) (more : List (List ℕ)) (cause : LineCause) → drop (length entries) all ≡ line ∷ more → length entries < MOST_LINES
+    pub bad_here : (line : List ℕ) (more : List (List ℕ)) (cause : LineCause) → drop (length entries) all ≡ line ∷ more → length entries < 65536
         → HasCause callers (object_from blank_object entries) line cause → IsBadCall first all (length entries + 2) cause
     bad_here line more cause left room fits =
         let next = drop_first all (length entries) line [] more left in
@@ -75,7 +74,7 @@ module _ (callers : ℕ) (all : List (List ℕ)) (entries : List Entry) (read : 
           fits = subst (λ l. HasCause callers (object_from blank_object entries) l cause) (sym next.1) fits;
         }
 
-    pub one_more : (bytes : List ℕ) → drop (length entries) all ≡ parts_at 10 bytes → length entries ≡ MOST_LINES → IsOneMore first all (length entries + 2)
+    pub one_more : (bytes : List ℕ) → drop (length entries) all ≡ parts_at 10 bytes → length entries ≡ 65536 → IsOneMore first all (length entries + 2)
     one_more bytes left full = record {
       callers = callers;
       entries = entries;

@@ -5,7 +5,6 @@ use Rattle.seat_history.specs.declared.call.Call.{Call}
 use Rattle.call_script.specs.Spelling.{SpellsCall}
 use Rattle.call_script.specs.declared.bad_script.LineCause.{LineCause}
 use Rattle.call_script.specs.declared.bad_script.LineCause.TheVariants as cause
-use Rattle.call_script.specs.declared.script.TheConstants.{REGISTERS}
 use Rattle.call_script.specs.declared.form.Behind.{Behind}
 use Rattle.call_script.specs.declared.form.Behind.TheVariants as behind
 use Rattle.call_script.specs.declared.form.Form.{Form}
@@ -33,8 +32,8 @@ words_in (Remove key) = codes "remove" ∷ key.now ∷ []
 
 -- what the words of a call are read as
 abbrev pub ReadsCall : List (List ℕ) → Result Call LineCause → Type 0
-ReadsCall words (Ok call) = SpellsCall words call × NamesBelow REGISTERS call
+ReadsCall words (Ok call) = SpellsCall words call × NamesBelow 16 call
 ReadsCall words (Err cause.Words) = ⊥
 ReadsCall words (Err cause.Number) = (call : Call) → SpellsCall words call → ⊥
-ReadsCall words (Err cause.Range) = (call : Call) × SpellsCall words call × (NamesBelow REGISTERS call → ⊥)
+ReadsCall words (Err cause.Range) = (call : Call) × SpellsCall words call × (NamesBelow 16 call → ⊥)
 ReadsCall words (Err cause.Held) = ⊥

@@ -3,13 +3,11 @@ use Rattle.std.specs.Prelude.{◌≡◌, ℕ, ◌<◌, ◌≤◌, List, [], ◌�
 use Rattle.std.specs.List.{AllByRecursion}
 use Rattle.seat_history.specs.Object.{Object, MayCall, NamesBelow}
 use Rattle.seat_history.specs.declared.entry.Entry.{Entry}
-use Rattle.seat_history.specs.declared.plain.TheConstants.{CALLERS}
 use Rattle.call_script.specs.Cut.{words_of}
 use Rattle.call_script.specs.Number.{IsNumber}
 use Rattle.call_script.specs.Spelling.{SpellsCall, HasCallWords}
 use Rattle.call_script.specs.declared.bad_script.LineCause.{LineCause}
 use Rattle.call_script.specs.declared.bad_script.LineCause.TheVariants.{Words, Number, Range, Held}
-use Rattle.call_script.specs.declared.script.TheConstants.{REGISTERS}
 
 -- no word is empty
 abbrev pub AreFull : List (List ℕ) → Type 0
@@ -26,7 +24,7 @@ NamesCallers line callers = (number : List ℕ) × (words_of line ≡ codes "cal
 
 -- a script may have so many callers
 abbrev pub MayHaveCallers : ℕ → Type 0
-MayHaveCallers callers = (1 ≤ callers) × (callers ≤ CALLERS)
+MayHaveCallers callers = (1 ≤ callers) × (callers ≤ 64)
 
 -- the cause fits line 1, and none before it
 abbrev pub HasFirstCause : List ℕ → LineCause → Type 0
@@ -51,7 +49,7 @@ SpellsEntry line entry = SpellsWords (words_of line) entry
 
 -- the caller is one of so many, and the register, if any, is there
 abbrev pub IsInRange : ℕ → Entry → Type 0
-IsInRange callers entry = (entry.caller < callers) × NamesBelow REGISTERS entry.call
+IsInRange callers entry = (entry.caller < callers) × NamesBelow 16 entry.call
 
 -- the cause fits a call line, and none before it, where the lines before leave this object
 abbrev pub HasCause : ℕ → Object → List ℕ → LineCause → Type 0

@@ -8,7 +8,6 @@ use Rattle.seat_history.specs.Object.{Object, blank_object}
 use Rattle.seat_history.specs.Pairs.{ArePairsOf, IsPairInRange}
 use Rattle.seat_history.specs.declared.entry.Entry.{Entry}
 use Rattle.call_script.specs.declared.driven.Driven.{Driven}
-use Rattle.call_script.specs.declared.script.TheConstants.{REGISTERS}
 
 -- the items at these places, one after the other
 abbrev pub items_at : {X : Type 0} → List X → List ℕ → List X
@@ -32,7 +31,7 @@ registers_in object count = map object.contents.registers (range_with_len 0 coun
 pub record RunsIn (order : List ℕ) (lines : List Entry) (driven : Driven) : Type 0 where
   pub each_replied : length driven.replies ≡ length lines
   pub replies : items_at driven.replies order ≡ replies_from blank_object (items_at lines order)
-  pub registers : driven.registers ≡ registers_in (object_from blank_object (items_at lines order)) REGISTERS
+  pub registers : driven.registers ≡ registers_in (object_from blank_object (items_at lines order)) 16
   pub pairs : ArePairsOf (object_from blank_object (items_at lines order)).contents.values driven.pairs
   pub in_range : All IsPairInRange driven.pairs
 

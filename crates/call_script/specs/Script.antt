@@ -9,7 +9,6 @@ use Rattle.call_script.specs.declared.bad_script.BadScript.{BadScript}
 use Rattle.call_script.specs.declared.bad_script.BadScript.TheVariants.{BadLine, TooMany, NoMemory}
 use Rattle.call_script.specs.declared.bad_script.LineCause.{LineCause}
 use Rattle.call_script.specs.declared.script.Script.{Script}
-use Rattle.call_script.specs.declared.script.TheConstants.{MOST_LINES}
 
 -- each call is in range, and may be made on the object that those before it leave
 abbrev pub MayRun : ℕ → Object → List Entry → Type 0
@@ -23,7 +22,7 @@ pub record IsScript (first : List ℕ) (rest : List (List ℕ)) (callers : ℕ) 
   pub some : MayHaveCallers callers
   pub spelled : AllZip SpellsEntry rest entries
   pub may : MayRun callers blank_object entries
-  pub few : length entries ≤ MOST_LINES
+  pub few : length entries ≤ 65536
 
 -- this line has the cause, and the lines before it are a script
 pub record IsBadCall (first : List ℕ) (rest : List (List ℕ)) (line : ℕ) (cause : LineCause) : Type 0 where
@@ -32,7 +31,7 @@ pub record IsBadCall (first : List ℕ) (rest : List (List ℕ)) (line : ℕ) (c
   pub before : IsScript first (take (length entries) rest) callers entries
   pub number : line ≡ length entries + 2
   pub there : length entries < length rest
-  pub few : length entries < MOST_LINES
+  pub few : length entries < 65536
   pub fits : HasCause callers (object_from blank_object entries) (slice_index_or rest (length entries) []) cause
 
 -- this line is one too many, and the lines before it are a script
@@ -42,7 +41,7 @@ pub record IsOneMore (first : List ℕ) (rest : List (List ℕ)) (line : ℕ) : 
   pub before : IsScript first (take (length entries) rest) callers entries
   pub number : line ≡ length entries + 2
   pub there : length entries < length rest
-  pub full : length entries ≡ MOST_LINES
+  pub full : length entries ≡ 65536
 
 -- what bytes read as: a script, a bad line, or too many lines
 pub data Reading : Type 0 where

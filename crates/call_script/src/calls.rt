@@ -27,7 +27,7 @@ fn key_of(word: &[u8]) -> Option<KeyWords>
 
 // The number of a register that is there.
 fn register_of(number: u64) -> Option<u32>
-    ensures { SomeIff result (number < REGISTERS) number }
+    ensures { SomeIff result (number < 16) number }
 {
     if number < u64::from(REGISTERS) {
         Some(number as u32)

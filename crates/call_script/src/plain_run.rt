@@ -20,12 +20,12 @@ fn call_all(
     callers: u32,
     calls: &[Entry],
 ) -> Result<Vec<Reply>, NoMemory>
-    requires callers { callers ≤ CALLERS }
-    requires registers { register_count plain.old ≡ REGISTERS }
+    requires callers { callers ≤ 64 }
+    requires registers { register_count plain.old ≡ 16 }
     requires may { MayRun callers (object_of plain.old) calls.now }
     ensures replies { IfOk result (λ replies. replies.items ≡ replies_from (object_of plain.old) calls.now) }
     ensures object { OnOk result (object_of plain.new ≡ object_from (object_of plain.old) calls.now) }
-    ensures registers { register_count plain.new ≡ REGISTERS }
+    ensures registers { register_count plain.new ≡ 16 }
 {
     let mut replies = Vec::with_capacity(alloc, calls.len())?;
     for entry in calls {
@@ -35,8 +35,8 @@ fn call_all(
 }
 
 fn all_registers(alloc: Global, plain: &Plain) -> Result<Vec<Rec>, NoMemory>
-    requires { register_count plain.now ≡ REGISTERS }
-    ensures { IfOk result (λ registers. registers.items ≡ registers_in (object_of plain.now) REGISTERS) }
+    requires { register_count plain.now ≡ 16 }
+    ensures { IfOk result (λ registers. registers.items ≡ registers_in (object_of plain.now) 16) }
 {
     let mut registers = Vec::with_capacity(alloc, REGISTERS as usize)?;
     for reg in 0..REGISTERS {
@@ -47,7 +47,7 @@ fn all_registers(alloc: Global, plain: &Plain) -> Result<Vec<Rec>, NoMemory>
 
 /// Calls the lines of a script on the object of one thread.
 pub fn run_plain(alloc: Global, script: &Script) -> Result<Driven, NoMemory>
-    requires callers { script.now.callers ≤ CALLERS }
+    requires callers { script.now.callers ≤ 64 }
     requires may { MayRun script.now.callers blank_object script.now.lines }
     ensures { IfOk result (λ driven. IsRun script.now.lines driven) }
 {

@@ -82,7 +82,7 @@ pub fn read_script(alloc: Global, bytes: &[u8]) -> Result<Script, BadScript>
     // Its calls may be made in turn.
     ensures callers { IfOk result (λ script. MayHaveCallers script.callers) }
     ensures may { IfOk result (λ script. MayRun script.callers blank_object script.lines) }
-    ensures few { IfOk result (λ script. length script.lines ≤ MOST_LINES) }
+    ensures few { IfOk result (λ script. length script.lines ≤ 65536) }
 {
     read_whole(alloc, bytes)
 }

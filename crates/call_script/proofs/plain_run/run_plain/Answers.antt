@@ -5,7 +5,6 @@ use Rattle.seat_history.specs.Pairs.{ArePairsOf}
 use Rattle.seat_history.specs.Plain.{object_of}
 use Rattle.call_script.specs.Run.{registers_in}
 use Rattle.call_script.specs.declared.driven.Driven.{Driven}
-use Rattle.call_script.specs.declared.script.TheConstants.{REGISTERS}
 use Rattle.call_script.proofs.Orders.{run_in_script_order}
 use Rattle.call_script.proofs.plain_run.run_plain.Goals as goal
 
@@ -17,5 +16,5 @@ returns c =
     let object = c.in_ok-replies.ensures.object ∙ ap (λ (o : Object). object_from o c.as_slice.result.now) blank ∙ ap (object_from blank_object) c.as_slice.ensures in
     let replies = c.of_vec.ensures ∙ c.in_ok-replies.ensures.replies ∙ ap (λ (o : Object). replies_from o c.as_slice.result.now) blank ∙ ap (replies_from blank_object) c.as_slice.ensures in
     run_in_script_order lines driven replies
-    (c.of_vec-2.ensures ∙ c.in_ok-all_registers.ensures ∙ ap (λ (o : Object). registers_in o REGISTERS) object)
+    (c.of_vec-2.ensures ∙ c.in_ok-all_registers.ensures ∙ ap (λ (o : Object). registers_in o 16) object)
     (subst (λ (o : Object). ArePairsOf o.contents.values driven.pairs) object c.in_ok-pairs.ensures.pairs) c.in_ok-pairs.ensures.in_range

@@ -11,7 +11,6 @@ use Rattle.call_script.specs.Holding.{TellsHolders}
 use Rattle.call_script.specs.Line.{HasCause}
 use Rattle.call_script.specs.Script.{IsBadCall, IsOneMore}
 use Rattle.call_script.specs.declared.bad_script.LineCause.TheVariants.{Held}
-use Rattle.call_script.specs.declared.script.TheConstants.{MOST_LINES}
 use Rattle.call_script.proofs.SoFar.{IsReadSoFar, no_holders, nothing_left, nothing_read, read_more, left_more, whole_script, bad_here, one_more}
 use Rattle.call_script.proofs.reading.read_calls.Goals as goal
 
@@ -39,7 +38,7 @@ returns-in-Err-clause-bad c = λ first named.
     let entries = c.lines.calls.items in
     let left = i.left ∙ ap (λ rest. parts_in 10 (option_map (λ bytes. bytes.now) rest)) c.in-Some.is ∙ c.cut.ensures in
     let count : length entries ≡ c.len.result = omega arith in
-    let room : length entries < MOST_LINES = omega arith in
+    let room : length entries < 65536 = omega arith in
     inr (subst (λ n. IsBadCall first (parts_in 10 (option_map (λ bytes. bytes.now) c.args.bytes)) (n + 2) c.in-Err.cause) count
     (bad_here c.args.callers _ entries i.read first named c.requires c.cut.result.0.now _ c.in-Err.cause left room (c.in-Err.ensures.err (object_from blank_object entries))))
 
@@ -50,7 +49,7 @@ returns-then-not-may_call-clause-bad c = λ first named.
     let object = object_from blank_object entries in
     let left = i.left ∙ ap (λ rest. parts_in 10 (option_map (λ bytes. bytes.now) rest)) c.in-Some.is ∙ c.cut.ensures in
     let count : length entries ≡ c.len.result = omega arith in
-    let room : length entries < MOST_LINES = omega arith in
+    let room : length entries < 65536 = omega arith in
     let fits : HasCause c.args.callers object c.cut.result.0.now Held =
     (c.in-Ok.entry, c.in-Ok.ensures.spelled, c.in-Ok.ensures.range, λ may. false≢true (sym c.if-not-may_call.true ∙ (c.may_call.ensures object i.tells).1 may)) in
     inr (subst (λ n. IsBadCall first (parts_in 10 (option_map (λ bytes. bytes.now) c.args.bytes)) (n + 2) Held) count
@@ -63,7 +62,7 @@ lines-preserved c =
     let entry = c.in-Ok.entry in
     let object = object_from blank_object entries in
     let left = i.left ∙ ap (λ rest. parts_in 10 (option_map (λ bytes. bytes.now) rest)) c.in-Some.is ∙ c.cut.ensures in
-    let room : length entries < MOST_LINES = omega arith in
+    let room : length entries < 65536 = omega arith in
     let longer : c.push.new.self.items ≡ entries ++ entry ∷ [] = c.in_ok-push.ensures.items in
     let may = (c.may_call.ensures object i.tells).0 c.if-not-may_call.false in
     record {
