@@ -2,7 +2,7 @@ ghost use Rattle.std.specs.Prelude.{◌≡◌};
 ghost use Rattle.seat_history.specs.Key.{key_number};
 
 /// A key. Keys are ordered by `k0`, and then by `k1`.
-#[derive(Clone, Copy, Debug, PartialEq, Eq, PartialOrd, Ord)]
+#[derive(Clone, Copy, Debug, PartialEq, Eq)]
 pub struct KeyWords {
     pub k0: u64,
     pub k1: u64,

@@ -39,26 +39,17 @@ pub(crate) fn insert(map: &mut Map, key: KeyWords, val: ValWords) -> Result<Repl
     }
 }
 
-pub(crate) fn replace(
-    map: &mut Map,
-    key: KeyWords,
-    old: ValWords,
-    new: ValWords,
-) -> Result<Reply, AllocError>
-    ensures reply { IfOk result (λ reply. reply ≡ replace_reply (values_of map.old (key_number key)) old) }
-    ensures ok { OnOk result (values_of map.new ≡ values_after (values_of map.old) (Replace key old new)) }
-    ensures err { OnErr result (values_of map.new ≡ values_of map.old) }
+pub(crate) fn replace(map: &mut Map, key: KeyWords, old: ValWords, new: ValWords) -> Reply
+    ensures reply { result ≡ replace_reply (values_of map.old (key_number key)) old }
+    ensures replaced { values_of map.new ≡ values_after (values_of map.old) (Replace key old new) }
 {
-    match map.get(&key.number()).copied() {
-        Some(val) => {
-            if val == old {
-                map.insert(key.number(), new)?;
-                Ok(Reply::Yes)
-            } else {
-                Ok(Reply::Found(val))
-            }
+    match map.get_mut(&key.number()) {
+        Some(val) if *val == old => {
+            *val = new;
+            Reply::Yes
         }
-        None => Ok(Reply::Absent),
+        Some(val) => Reply::Found(*val),
+        None => Reply::Absent,
     }
 }
 

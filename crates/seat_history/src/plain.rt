@@ -74,7 +74,7 @@ impl Plain {
             }
             Call::Find { key } => Ok(map::find(&self.map, key)),
             Call::Insert { key, val } => Ok(map::insert(&mut self.map, key, val)?),
-            Call::Replace { key, old, new } => Ok(map::replace(&mut self.map, key, old, new)?),
+            Call::Replace { key, old, new } => Ok(map::replace(&mut self.map, key, old, new)),
             Call::Remove { key } => Ok(map::remove(&mut self.map, key)),
         }
     }
