@@ -1,5 +1,4 @@
 pub mod Parts
-pub mod ReadDigits
 pub mod Numbers
 pub mod Tuples
 pub mod Zips

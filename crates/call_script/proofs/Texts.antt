@@ -1,10 +1,11 @@
 -- Texts put together part by part.
 use Rattle.std.specs.Prelude.{◌==◌, ◌&&◌}
-use Rattle.std.specs.List.{enumerate_from, flat_map}
-use Rattle.std.proofs.Common.{◌≡◌, ◌≢◌, ◌∙◌, ℕ, ◌+◌, ◌<◌, Bool, true, false, cond, List, [], ◌∷◌, ◌++◌, length, take, get_or, ne_eqb, append_assoc, refl, sym, ap, ap₂, arith}
+use Rattle.std.specs.List.{AllByRecursion, enumerate_from, flat_map}
+use Rattle.std.proofs.Common.{All, ◌≡◌, ◌≢◌, ◌∙◌, ℕ, zero, suc, ◌+◌, ◌<◌, Bool, true, false, cond, List, [], ◌∷◌, ◌++◌, length, take, get_or, ne_eqb, append_assoc, refl, sym, ap, ap₂, arith}
 use Rattle.std.proofs.lemmas.List.{append-nil, take_more, length-take}
 use Rattle.std.proofs.lemmas.List.Concat.{flat_map-append}
-use Rattle.std.proofs.lemmas.List.Folds.{list_all-append}
+use Rattle.std.proofs.lemmas.List.Elements.{All-from_get_or, recursion_from_All}
+use Rattle.std.proofs.lemmas.List.Folds.{list_all_at}
 use Rattle.call_script.specs.Text.{is_blank, trimmed, register_line}
 
 enumerate-push : {X : Type 0} (n : ℕ) (xs : List X) (x : X) → enumerate_from n (xs ++ x ∷ []) ≡ enumerate_from n xs ++ (n + length xs, x) ∷ []
@@ -22,36 +23,28 @@ registers_more rs i d lt =
     ap (flat_map register_line) pushed ∙ flat_map-append register_line (enumerate_from 0 front) ((i, get_or rs i d) ∷ [])
     ∙ ap (λ line. flat_map register_line (enumerate_from 0 front) ++ line) (append-nil (register_line (i, get_or rs i d)))
 
-and_true : (b : Bool) → (b && true) ≡ b
-and_true true = refl
-and_true false = refl
+zeros_blank : (words : List ℕ) → AllByRecursion (λ word. word ≡ 0) words → is_blank words ≡ true
+zeros_blank [] zeros = refl
+zeros_blank (word ∷ words) zeros = ap₂ (λ (w : ℕ) (b : Bool). (w == 0) && b) zeros.0 (zeros_blank words zeros.1)
 
-and_false : (b : Bool) → (b && false) ≡ false
-and_false true = refl
-and_false false = refl
+-- of zeros nothing is left
+pub trimmed_zeros : (words : List ℕ) → All (λ word. word ≡ 0) words → trimmed words ≡ []
+trimmed_zeros [] zeros = refl
+trimmed_zeros (word ∷ words) zeros = ap (λ b. cond b [] (word ∷ trimmed words)) (zeros_blank (word ∷ words) (recursion_from_All (λ w. w ≡ 0) (word ∷ words) zeros))
 
-blank_zero : (words : List ℕ) → is_blank (words ++ 0 ∷ []) ≡ is_blank words
-blank_zero words = list_all-append (λ w. w == 0) words (0 ∷ []) ∙ and_true (is_blank words)
+not_blank : (words : List ℕ) (i : ℕ) → i < length words → get_or words i 0 ≢ 0 → is_blank words ≡ false
+not_blank words i within some = list_all_at (λ w. w == 0) words i 0 within (ne_eqb (get_or words i 0) 0 some)
 
-blank_word : (words : List ℕ) (word : ℕ) → word ≢ 0 → is_blank (words ++ word ∷ []) ≡ false
-blank_word words word some =
-    list_all-append (λ w. w == 0) words (word ∷ []) ∙ ap (λ b. is_blank words && (b && true)) (ne_eqb word 0 some) ∙ and_false (is_blank words)
-
-trimmed_zero : (words : List ℕ) → trimmed (words ++ 0 ∷ []) ≡ trimmed words
-trimmed_zero [] = refl
-trimmed_zero (y ∷ ys) = ap₂ (λ b t. cond b [] (y ∷ t)) (blank_zero (y ∷ ys)) (trimmed_zero ys)
-
-trimmed_word : (words : List ℕ) (word : ℕ) → word ≢ 0 → trimmed (words ++ word ∷ []) ≡ words ++ word ∷ []
-trimmed_word [] word some = ap (λ b. cond b [] (word ∷ [])) (blank_word [] word some)
-trimmed_word (y ∷ ys) word some = ap₂ (λ b t. cond b [] (y ∷ t)) (blank_word (y ∷ ys) word some) (trimmed_word ys word some)
-
--- one word more, which is or isn't zero
-pub trimmed_more_zero : (words : List ℕ) (i count : ℕ) → i < length words → get_or words i 0 ≡ 0 → trimmed (take i words) ≡ take count words → trimmed (take (i + 1) words) ≡ take count words
-trimmed_more_zero words i count lt zero so_far =
-    ap trimmed (take_more words i 0 lt ∙ ap (λ w. take i words ++ w ∷ []) zero) ∙ trimmed_zero (take i words) ∙ so_far
-
-pub trimmed_more_word : (words : List ℕ) (i : ℕ) → i < length words → get_or words i 0 ≢ 0 → trimmed (take (i + 1) words) ≡ take (i + 1) words
-trimmed_more_word words i lt some = ap trimmed (take_more words i 0 lt) ∙ trimmed_word (take i words) (get_or words i 0) some ∙ sym (take_more words i 0 lt)
+-- what is left ends at the last word that isn't zero
+pub trimmed_at : (words : List ℕ) (last : ℕ) → last < length words → get_or words last 0 ≢ 0
+    → ((i : ℕ) → last < i → i < length words → get_or words i 0 ≡ 0) → take (suc last) words ≡ trimmed words
+trimmed_at [] last within some zeros = absurd (omega arith)
+trimmed_at (word ∷ words) zero within some zeros =
+    let rest = trimmed_zeros words (All-from_get_or (λ w. w ≡ 0) words 0 (λ i lt. zeros (suc i) (omega arith) (omega arith))) in
+    sym (ap (λ b. cond b [] (word ∷ trimmed words)) (not_blank (word ∷ words) 0 within some) ∙ ap (λ ws. word ∷ ws) rest)
+trimmed_at (word ∷ words) (suc last) within some zeros =
+    ap (λ ws. word ∷ ws) (trimmed_at words last (omega arith) some (λ i above lt. zeros (suc i) (omega arith) (omega arith)))
+    ∙ sym (ap (λ b. cond b [] (word ∷ trimmed words)) (not_blank (word ∷ words) (suc last) within some))
 
 pub registers_step : (rs : List (List ℕ)) (i : ℕ) (d front text next : List ℕ) → i < length rs → text ≡ front ++ flat_map register_line (enumerate_from 0 (take i rs)) → next ≡ text ++ register_line (i, get_or rs i d)
     → next ≡ front ++ flat_map register_line (enumerate_from 0 (take (i + 1) rs))

@@ -1,5 +1,4 @@
 pub mod Cut
-pub mod Digits
 pub mod Form
 pub mod Holding
 pub mod Line

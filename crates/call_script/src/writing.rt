@@ -1,107 +1,96 @@
 // The text of what comes of a script.
-ghost use Rattle.std.specs.Prelude.{◌≡◌, ◌++◌, ◌∷◌, [], ◌<◌, ◌≤◌, length, decimal, take, IfOk, OnOk};
+ghost use Rattle.std.specs.Prelude.{◌≡◌, ◌++◌, ◌∷◌, [], ◌<◌, ◌≤◌, length, decimal, ℕ, ◌≢◌, All, slice_index, IfSome, IfNone, IfOk, OnOk};
 ghost use Rattle.std.specs.List.{flat_map, enumerate_from};
 ghost use Rattle.call_script.specs.Text.{driven_text, is_blank, labelled, pair_line, register_line, reply_line, reply_text, trimmed, tuple_text};
 ghost use Rattle.seat_history.specs.Pairs.{HasRisingKeys};
 
 use crate::driven::Driven;
-use itoa::Buffer;
+use decimal_text::TextWriter;
 use seat_history::{KeyWords, Rec, Reply, ValWords};
 use std::alloc::{AllocError, Global};
 use wire_ports::NoMemory;
 
-fn add_number(text: &mut Vec<u8>, digits: &mut Buffer, n: u64) -> Result<(), AllocError>
-    ensures { OnOk result (text.new.items ≡ text.old.items ++ decimal n) }
+// The place of the last word that isn't zero.
+fn last_place(words: &[u64]) -> Option<usize>
+    ensures within { IfSome result (λ last. last < length words.now) }
+    ensures found { IfSome result (λ last. slice_index words.now last ≢ 0) }
+    ensures zeros { IfSome result (λ last. (i : ℕ) → last < i → i < length words.now → slice_index words.now i ≡ 0) }
+    ensures none { IfNone result (All (λ word. word ≡ 0) words.now) }
 {
-    text.extend_from_slice(digits.format(n).as_bytes())
+    words.iter().rposition(|word| *word != 0)
 }
 
-fn add_text(text: &mut Vec<u8>, more: &str) -> Result<(), AllocError>
-    ensures { OnOk result (text.new.items ≡ text.old.items ++ more.now) }
+// The words before the zeros at the end.
+fn trimmed_words(words: &[u64]) -> &[u64]
+    ensures { result.now ≡ trimmed words.now }
 {
-    text.extend_from_slice(more.as_bytes())
-}
-
-// How many words stand before the zeros at the end.
-fn trimmed_count(words: &[u64]) -> usize
-    ensures front { trimmed words.now ≡ take result words.now }
-    ensures within { result ≤ length words.now }
-{
-    let mut count = 0;
-    for (i, word) in words.iter().enumerate() {
-        if *word != 0 {
-            count = i + 1;
-        }
+    match last_place(words) {
+        Some(last) => &words[..=last],
+        None => &[],
     }
-    count
 }
 
 // The words, with a comma before each.
-fn add_words(text: &mut Vec<u8>, digits: &mut Buffer, words: &[u64]) -> Result<(), AllocError>
-    ensures { OnOk result (text.new.items ≡ text.old.items ++ flat_map (λ n. 44 ∷ decimal n) words.now) }
+fn add_words(text: &mut TextWriter, words: &[u64]) -> Result<(), AllocError>
+    ensures { OnOk result (text.new ≡ text.old ++ flat_map (λ n. 44 ∷ decimal n) words.now) }
 {
     for word in words {
-        add_text(text, ",")?;
-        add_number(text, digits, *word)?;
+        text.push_byte(b',')?;
+        text.push_number(*word)?;
     }
     Ok(())
 }
 
 #[tactic(auto, unfolding(crate::specs::Text::tuple_text))]
-fn add_tuple(text: &mut Vec<u8>, digits: &mut Buffer, words: &[u64]) -> Result<(), AllocError>
-    ensures { OnOk result (text.new.items ≡ text.old.items ++ tuple_text words.now) }
+fn add_tuple(text: &mut TextWriter, words: &[u64]) -> Result<(), AllocError>
+    ensures { OnOk result (text.new ≡ text.old ++ tuple_text words.now) }
 {
     match words {
         [] => Ok(()),
         [first, rest @ ..] => {
-            add_number(text, digits, *first)?;
-            add_words(text, digits, &rest[..trimmed_count(rest)])
+            text.push_number(*first)?;
+            add_words(text, trimmed_words(rest))
         }
     }
 }
 
 #[tactic(auto, unfolding(crate::specs::Text::labelled))]
-fn add_labelled(
-    text: &mut Vec<u8>,
-    digits: &mut Buffer,
-    label: &str,
-    words: &[u64],
-) -> Result<(), AllocError>
-    ensures { OnOk result (text.new.items ≡ text.old.items ++ labelled label.now words.now) }
+fn add_labelled(text: &mut TextWriter, label: &str, words: &[u64]) -> Result<(), AllocError>
+    ensures { OnOk result (text.new ≡ text.old ++ labelled label.now words.now) }
 {
-    add_text(text, label)?;
-    add_tuple(text, digits, words)
+    text.push_bytes(label.as_bytes())?;
+    add_tuple(text, words)
 }
 
 #[tactic(auto, unfolding(crate::specs::Text::reply_text))]
-fn add_reply(text: &mut Vec<u8>, digits: &mut Buffer, reply: &Reply) -> Result<(), AllocError>
-    ensures { OnOk result (text.new.items ≡ text.old.items ++ reply_text reply.now) }
+fn add_reply(text: &mut TextWriter, reply: &Reply) -> Result<(), AllocError>
+    ensures { OnOk result (text.new ≡ text.old ++ reply_text reply.now) }
 {
     match reply {
-        Reply::Words(rec) => add_tuple(text, digits, rec),
-        Reply::Done => add_text(text, "done"),
-        Reply::Yes => add_text(text, "yes"),
-        Reply::No => add_text(text, "no"),
-        Reply::Absent => add_text(text, "absent"),
-        Reply::Val(val) => add_tuple(text, digits, val),
-        Reply::Present(val) => add_labelled(text, digits, "present ", val),
-        Reply::Found(val) => add_labelled(text, digits, "found ", val),
-        Reply::Gone(val) => add_labelled(text, digits, "gone ", val),
+        Reply::Words(rec) => add_tuple(text, rec),
+        Reply::Done => text.push_bytes(b"done"),
+        Reply::Yes => text.push_bytes(b"yes"),
+        Reply::No => text.push_bytes(b"no"),
+        Reply::Absent => text.push_bytes(b"absent"),
+        Reply::Val(val) => add_tuple(text, val),
+        Reply::Present(val) => add_labelled(text, "present ", val),
+        Reply::Found(val) => add_labelled(text, "found ", val),
+        Reply::Gone(val) => add_labelled(text, "gone ", val),
         Reply::Full { need, free } => {
-            add_text(text, "full need ")?;
-            add_number(text, digits, u64::from(*need))?;
-            add_text(text, " free ")?;
-            add_number(text, digits, u64::from(*free))
+            text.push_bytes(b"full need ")?;
+            text.push_number(u64::from(*need))?;
+            text.push_bytes(b" free ")?;
+            text.push_number(u64::from(*free))
         }
     }
 }
 
-fn add_replies(text: &mut Vec<u8>, digits: &mut Buffer, replies: &[Reply]) -> Result<(), AllocError>
-    ensures { OnOk result (text.new.items ≡ text.old.items ++ flat_map reply_line replies.now) }
+fn add_replies(text: &mut TextWriter, replies: &[Reply]) -> Result<(), AllocError>
+    ensures { OnOk result (text.new ≡ text.old ++ flat_map reply_line replies.now) }
 {
     for reply in replies {
-        add_reply(text, digits, reply)?;
-        add_text(text, "\n")?;
+        add_reply(text, reply)?;
+        text.push_byte(b'\n')?;
     }
     Ok(())
 }
@@ -113,62 +102,44 @@ fn is_zero(words: &[u64]) -> bool
 }
 
 #[tactic(auto, unfolding(crate::specs::Text::register_line))]
-fn add_register(
-    text: &mut Vec<u8>,
-    digits: &mut Buffer,
-    number: usize,
-    words: &Rec,
-) -> Result<(), AllocError>
-    ensures { OnOk result (text.new.items ≡ text.old.items ++ register_line (number, words.now)) }
+fn add_register(text: &mut TextWriter, number: usize, words: &Rec) -> Result<(), AllocError>
+    ensures { OnOk result (text.new ≡ text.old ++ register_line (number, words.now)) }
 {
     if is_zero(words) {
         return Ok(());
     }
-    add_text(text, "register ")?;
-    add_number(text, digits, number as u64)?;
-    add_text(text, " ")?;
-    add_tuple(text, digits, words)?;
-    add_text(text, "\n")
+    text.push_bytes(b"register ")?;
+    text.push_number(number as u64)?;
+    text.push_byte(b' ')?;
+    add_tuple(text, words)?;
+    text.push_byte(b'\n')
 }
 
-fn add_registers(
-    text: &mut Vec<u8>,
-    digits: &mut Buffer,
-    registers: &[Rec],
-) -> Result<(), AllocError>
-    ensures { OnOk result (text.new.items ≡ text.old.items ++ flat_map register_line (enumerate_from 0 registers.now)) }
+fn add_registers(text: &mut TextWriter, registers: &[Rec]) -> Result<(), AllocError>
+    ensures { OnOk result (text.new ≡ text.old ++ flat_map register_line (enumerate_from 0 registers.now)) }
 {
     for (number, words) in registers.iter().enumerate() {
-        add_register(text, digits, number, words)?;
+        add_register(text, number, words)?;
     }
     Ok(())
 }
 
 #[tactic(auto, unfolding(crate::specs::Text::pair_line))]
-fn add_pair(
-    text: &mut Vec<u8>,
-    digits: &mut Buffer,
-    key: &KeyWords,
-    val: &ValWords,
-) -> Result<(), AllocError>
-    ensures { OnOk result (text.new.items ≡ text.old.items ++ pair_line (key.now, val.now)) }
+fn add_pair(text: &mut TextWriter, key: &KeyWords, val: &ValWords) -> Result<(), AllocError>
+    ensures { OnOk result (text.new ≡ text.old ++ pair_line (key.now, val.now)) }
 {
-    add_text(text, "record ")?;
-    add_tuple(text, digits, &[key.k0, key.k1])?;
-    add_text(text, " ")?;
-    add_tuple(text, digits, val)?;
-    add_text(text, "\n")
+    text.push_bytes(b"record ")?;
+    add_tuple(text, &[key.k0, key.k1])?;
+    text.push_byte(b' ')?;
+    add_tuple(text, val)?;
+    text.push_byte(b'\n')
 }
 
-fn add_pairs(
-    text: &mut Vec<u8>,
-    digits: &mut Buffer,
-    pairs: &[(KeyWords, ValWords)],
-) -> Result<(), AllocError>
-    ensures { OnOk result (text.new.items ≡ text.old.items ++ flat_map pair_line pairs.now) }
+fn add_pairs(text: &mut TextWriter, pairs: &[(KeyWords, ValWords)]) -> Result<(), AllocError>
+    ensures { OnOk result (text.new ≡ text.old ++ flat_map pair_line pairs.now) }
 {
     for (key, val) in pairs {
-        add_pair(text, digits, key, val)?;
+        add_pair(text, key, val)?;
     }
     Ok(())
 }
@@ -179,10 +150,9 @@ pub fn write_replies(alloc: Global, driven: &Driven) -> Result<Vec<u8>, NoMemory
     requires { HasRisingKeys driven.now.pairs }
     ensures { IfOk result (λ text. text.items ≡ driven_text driven.now) }
 {
-    let mut digits = Buffer::new();
-    let mut text = Vec::new(alloc);
-    add_replies(&mut text, &mut digits, driven.replies.as_slice())?;
-    add_registers(&mut text, &mut digits, driven.registers.as_slice())?;
-    add_pairs(&mut text, &mut digits, driven.pairs.as_slice())?;
-    Ok(text)
+    let mut text = TextWriter::new(alloc);
+    add_replies(&mut text, driven.replies.as_slice())?;
+    add_registers(&mut text, driven.registers.as_slice())?;
+    add_pairs(&mut text, driven.pairs.as_slice())?;
+    Ok(text.into_bytes())
 }

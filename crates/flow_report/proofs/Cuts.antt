@@ -3,7 +3,7 @@ use Rattle.std.specs.List.{AllByRecursion}
 use Rattle.std.proofs.Common.{◌≡◌, ◌≢◌, ℕ, ◌<◌, ◌^◌, List, [], ◌∷◌, ◌++◌, All, decimal, refl, ap₂, arith}
 use Rattle.std.proofs.lemmas.List.Elements.{recursion_from_All, All-from_get_or}
 use Rattle.std.proofs.lemmas.Str.Parse.{digit_at}
-use Rattle.flow_report.proofs.Decimals.{spelling_digits}
+use Rattle.decimal_text.proofs.Decimals.{spelling_digits}
 
 same_by_recursion : (c : ℕ) (xs r ys s : List ℕ) → AllByRecursion (λ b. b ≢ c) xs → AllByRecursion (λ b. b ≢ c) ys → xs ++ c ∷ r ≡ ys ++ c ∷ s → (xs ≡ ys) × (r ≡ s)
 same_by_recursion c [] r [] s in_xs in_ys is = (refl, cc is)

@@ -1,5 +1,4 @@
 pub mod Cuts
-pub mod Decimals
 pub mod Fronts
 pub mod LastParts
 pub mod LineFeeds

@@ -15,7 +15,7 @@ use Rattle.flow_report.specs.ReadBack.{IsReport, HasFlowLines, HasJustFlowLines,
 use Rattle.flow_report.specs.Reading.{BeginsWith, EndsInTotals}
 use Rattle.flow_report.specs.Sums.{packets_of, octets_of}
 use Rattle.flow_report.specs.Text.{flow_line, key_text, words_then, dotted, sums_text, totals_text, last_line, report_text, named, line_feed}
-use Rattle.flow_report.proofs.Decimals.{spelling_digits}
+use Rattle.decimal_text.proofs.Decimals.{spelling_digits}
 use Rattle.flow_report.proofs.Fronts.{one_more_line, no_more_lines}
 use Rattle.flow_report.proofs.LineFeeds.{feeds_are_flows}
 use Rattle.flow_report.proofs.Parts.{flows_free}

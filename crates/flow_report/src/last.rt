@@ -8,7 +8,7 @@ use crate::line::{LAST_LINE_ROOM, add_sums};
 use crate::number::read_number;
 use crate::sums::Sums;
 use crate::totals::Totals;
-use itoa::Buffer;
+use decimal_text::TextWriter;
 use std::alloc::{AllocError, Global};
 
 /// The totals, where the whole text is the last line under flow lines with these sums.
@@ -19,9 +19,9 @@ pub(crate) fn read_last(
 ) -> Result<Option<Totals>, AllocError>
     ensures { IfOk result (EndsInTotals (sums_text sums.flows sums.packets sums.octets) text.now) }
 {
-    let mut front = Vec::with_capacity(alloc, LAST_LINE_ROOM)?;
-    add_sums(&mut front, &mut Buffer::new(), sums)?;
-    Ok(totals_after(text, front.as_slice()))
+    let mut front = TextWriter::with_capacity(alloc, LAST_LINE_ROOM)?;
+    add_sums(&mut front, sums)?;
+    Ok(totals_after(text, front.into_bytes().as_slice()))
 }
 
 /// The totals, where the whole text is `front` and their half of the last line.

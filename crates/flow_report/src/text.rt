@@ -6,11 +6,11 @@ ghost use Rattle.flow_report.specs.ReadBack.{IsReport};
 ghost use Rattle.flow_report.specs.Sums.{packets_of, octets_of};
 ghost use Rattle.flow_report.specs.Text.{flow_line, report_text};
 
-use crate::line::{FLOW_LINE_ROOM, LAST_LINE_ROOM, add_flow, add_last};
+use crate::line::{LAST_LINE_ROOM, add_flow, add_last, flow_line_room};
 use crate::sums::Sums;
 use crate::totals::Totals;
+use decimal_text::TextWriter;
 use flow_fold::{Key, Value};
-use itoa::Buffer;
 use std::alloc::{AllocError, Global};
 use wire_ports::NoMemory;
 
@@ -23,28 +23,24 @@ pub fn report(alloc: Global, flows: &[(Key, Value)], totals: &Totals) -> Result<
     // So `read_report` reads it back.
     ensures report { IfOk result (λ text. IsReport text.items flows.now totals.now) }
 {
-    let room = room_for(flows.len()).ok_or(NoMemory)?;
-    let mut text = Vec::with_capacity(alloc, room)?;
-    let mut digits = Buffer::new();
-    let sums = add_flows(&mut text, &mut digits, flows)?;
-    add_last(&mut text, &mut digits, sums, *totals)?;
-    Ok(text)
+    let mut text = TextWriter::with_capacity(alloc, room_for(flows))?;
+    let sums = add_flows(&mut text, flows)?;
+    add_last(&mut text, sums, *totals)?;
+    Ok(text.into_bytes())
 }
 
-/// The bytes that a report of so many flows has at most, where memory could have as many.
-fn room_for(flows: usize) -> Option<usize> {
-    flows
-        .checked_mul(FLOW_LINE_ROOM)?
-        .checked_add(LAST_LINE_ROOM)
+/// The bytes that the report has at most.
+fn room_for(flows: &[(Key, Value)]) -> usize {
+    let mut room = LAST_LINE_ROOM;
+    for (_, value) in flows {
+        room = room.saturating_add(flow_line_room(value));
+    }
+    room
 }
 
 /// A line for each flow, and their packets and octets together.
-fn add_flows(
-    text: &mut Vec<u8>,
-    digits: &mut Buffer,
-    flows: &[(Key, Value)],
-) -> Result<Sums, AllocError>
-    ensures lines { OnOk result (text.new.items ≡ text.old.items ++ flat_map flow_line flows.now) }
+fn add_flows(text: &mut TextWriter, flows: &[(Key, Value)]) -> Result<Sums, AllocError>
+    ensures lines { OnOk result (text.new ≡ text.old ++ flat_map flow_line flows.now) }
     ensures in_range { OnOk result (All IsFlowInRange flows.now) }
     ensures flows { IfOk result (λ sums. sums.flows ≡ length flows.now) }
     ensures packets { IfOk result (λ sums. sums.packets ≡ packets_of flows.now) }
@@ -52,7 +48,7 @@ fn add_flows(
 {
     let mut sums = Sums::none();
     for flow in flows {
-        add_flow(text, digits, flow)?;
+        add_flow(text, flow)?;
         sums = sums.with(flow.1);
     }
     Ok(sums)

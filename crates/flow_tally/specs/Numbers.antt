@@ -1,15 +1,12 @@
 -- Numbers in words.
-use Rattle.std.specs.Prelude.{ℕ, ◌&&◌, Bool, List, length, Option, Some, None, if◌then◌else◌, nat_lt, nat_le}
-use Rattle.std.specs.List.{list_all}
+use Rattle.std.specs.Prelude.{ℕ, ◌&&◌, List, length, Option, Some, None, if◌then◌else◌, nat_lt, nat_le}
+use Rattle.std.specs.Str.{all_ascii_digits}
 use Rattle.std.specs.Str.Parse.{digits_value}
-
-abbrev pub is_digit : ℕ → Bool
-is_digit byte = nat_le 48 byte && nat_le byte 57
 
 -- the number that one or more decimal digits stand for, where it is in the range
 unfoldable pub decimal_in : ℕ → ℕ → List ℕ → Option ℕ
 decimal_in least most text =
-    if nat_lt 0 (length text) && (list_all is_digit text && (nat_le least (digits_value 10 text) && nat_le (digits_value 10 text) most))
+    if nat_lt 0 (length text) && (all_ascii_digits text && (nat_le least (digits_value 10 text) && nat_le (digits_value 10 text) most))
     then Some (digits_value 10 text) else None
 
 -- the number given, in its range, or the default where none is given

@@ -4,4 +4,4 @@ use Rattle.std.proofs.Common.{◌≡◌, ◌++◌, take}
 use Rattle.call_script.proofs.writing.add_pairs.Given as goal
 
 abbrev pub invariant-loop-key : goal.invariant-loop-key
-invariant-loop-key l = l.text.items ≡ l.fn.text.items ++ flat_map pair_line (take l.key-index l.pairs)
+invariant-loop-key l = l.text ≡ l.fn.text ++ flat_map pair_line (take l.key-index l.pairs)

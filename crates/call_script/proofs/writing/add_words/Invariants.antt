@@ -4,4 +4,4 @@ use Rattle.std.proofs.Common.{◌≡◌, ◌++◌, ◌∷◌, take}
 use Rattle.call_script.proofs.writing.add_words.Given as goal
 
 abbrev pub invariant-loop-word : goal.invariant-loop-word
-invariant-loop-word l = l.text.items ≡ l.fn.text.items ++ flat_map (λ n. 44 ∷ decimal n) (take l.word-index l.words)
+invariant-loop-word l = l.text ≡ l.fn.text ++ flat_map (λ n. 44 ∷ decimal n) (take l.word-index l.words)

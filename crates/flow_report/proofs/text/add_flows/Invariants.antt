@@ -7,7 +7,7 @@ use Rattle.flow_report.proofs.text.add_flows.Given as goal
 
 abbrev pub invariant-loop-flow : goal.invariant-loop-flow
 invariant-loop-flow l = record {
-  lines : l.text.items ≡ l.fn.text.items ++ flat_map flow_line (take l.flow-index l.flows);
+  lines : l.text ≡ l.fn.text ++ flat_map flow_line (take l.flow-index l.flows);
   in_range : All IsFlowInRange (take l.flow-index l.flows);
   flows : l.sums.flows ≡ l.flow-index;
   packets : l.sums.packets ≡ packets_of (take l.flow-index l.flows);

@@ -1,8 +1,8 @@
 -- The spelling of a number.
 use Rattle.std.specs.Int.{IsInRange}
 use Rattle.std.specs.Str.Parse.{AllDigits, IsNumeral, digits_value}
-use Rattle.std.specs.Option.{SomeIff}
-use Rattle.std.proofs.Common.{◌≡◌, ℕ, ◌+◌, ◌-◌, ◌*◌, take, ◌<◌, ◌≤◌, ◌^◌, List, length, get_or, decimal, MatchOption, Option, Some, None, ◌≢◌, ap, sym, subst, ◌∙◌, arith, inl, inr}
+use Rattle.std.specs.Option.{IfNone, IfSome, SomeIff}
+use Rattle.std.proofs.Common.{◌≡◌, ℕ, ◌+◌, ◌-◌, ◌*◌, take, ◌<◌, ◌≤◌, ◌^◌, List, length, get_or, decimal, Option, Some, None, ◌≢◌, ap, sym, subst, ◌∙◌, arith, inl, inr}
 use Rattle.std.proofs.lemmas.Bool.{cases_lt}
 use Rattle.std.proofs.lemmas.Fmt.{decimal_is_IsNumeral, decimal_digit, decimal-digits_value, first_decimal}
 use Rattle.std.proofs.lemmas.Int.Digits.{digits_value_more}
@@ -39,12 +39,15 @@ no_needless_zero word n small is zero long =
     ]
 
 -- what the value of a word's digits says of its being a spelling
-pub spelling_from_value : (word : List ℕ) (most : ℕ) (value : Option ℕ) → most < 2 ^ 64 → ((get_or word 0 0 ≡ 48) × (1 < length word) → ⊥)
-    → SomeIff value (IsNumeral 10 word × (digits_value 10 word ≤ most)) (digits_value 10 word)
-    → MatchOption value ((n : ℕ) → n ≤ most → word ≢ decimal n) (λ n. (n ≤ most) × (word ≡ decimal n))
-spelling_from_value word most None limit plain none = λ n le is.
-    let digits = spelling_digits word n (omega arith) is in
-    none ((digits.1, digits.0), omega (arith, digits.2))
-spelling_from_value word most (Some n) limit plain h =
-    let small : n ≤ most = omega (arith, h.0.1, h.1) in
-    (small, spells_value word n h.0.0.1 h.0.0.0 plain h.1 (omega arith))
+module _ (word : List ℕ) (most : ℕ) (limit : most < 2 ^ 64) (plain : (get_or word 0 0 ≡ 48) × (1 < length word) → ⊥) where
+  pub value_spelled : (value : Option ℕ) → SomeIff value (IsNumeral 10 word × (digits_value 10 word ≤ most)) (digits_value 10 word) → IfSome value (λ n. word ≡ decimal n)
+  value_spelled None h = tt
+  value_spelled (Some n) h = spells_value word n h.0.0.1 h.0.0.0 plain h.1 (omega (arith, h.0.1, h.1))
+
+  pub value_at_most : (value : Option ℕ) → SomeIff value (IsNumeral 10 word × (digits_value 10 word ≤ most)) (digits_value 10 word) → IfSome value (λ n. n ≤ most)
+  value_at_most None h = tt
+  value_at_most (Some n) h = omega (arith, h.0.1, h.1)
+
+  pub no_spelling : (value : Option ℕ) → SomeIff value (IsNumeral 10 word × (digits_value 10 word ≤ most)) (digits_value 10 word) → IfNone value ((n : ℕ) → n ≤ most → word ≢ decimal n)
+  no_spelling None h = λ n le is. let digits = spelling_digits word n (omega arith) is in h ((digits.1, digits.0), omega (arith, digits.2))
+  no_spelling (Some n) h = tt

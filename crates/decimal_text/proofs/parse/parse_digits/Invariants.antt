@@ -1,10 +1,10 @@
 use Rattle.std.proofs.Common.{◌≡◌, ◌≤◌, take}
 use Rattle.std.specs.Str.Parse.{AllDigits, digits_value}
-use Rattle.flow_report.proofs.number.value_of.Given as goal
+use Rattle.decimal_text.proofs.parse.parse_digits.Given as goal
 
 abbrev pub invariant-loop-digit : goal.invariant-loop-digit
 invariant-loop-digit l = record {
-  digits : AllDigits 10 (take l.digit-index l.word);
-  value : l.value ≡ digits_value 10 (take l.digit-index l.word);
+  digits : AllDigits 10 (take l.digit-index l.text);
+  value : l.value ≡ digits_value 10 (take l.digit-index l.text);
   small : l.value ≤ l.most;
 }
