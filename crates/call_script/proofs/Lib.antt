@@ -9,4 +9,5 @@ pub mod Causes
 pub mod SoFar
 pub mod OneCall
 pub mod OneReading
+pub mod OneRun
 pub mod Texts

@@ -7,6 +7,7 @@ mod cut;
 mod driven;
 mod form;
 mod holding;
+mod laws;
 mod line_list;
 mod lines;
 mod number;
@@ -21,6 +22,7 @@ mod writing;
 
 pub use bad_script::{BadScript, LineCause};
 pub use driven::Driven;
+pub use laws::order_has_one_run;
 pub use line_list::LineList;
 pub use plain_run::run_plain;
 pub use reading::read_script;

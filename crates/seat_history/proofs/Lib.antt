@@ -3,3 +3,4 @@ pub mod Changed
 pub mod Histories
 pub mod Numbered
 pub mod Replies
+pub mod SamePairs

@@ -1,9 +1,10 @@
 // What the definitions come to. A law is a function with nothing to do.
-ghost use Rattle.std.specs.Prelude.{◌≡◌, ◌≢◌, ◌+◌, ◌<◌, ◌^◌, ◌↔◌, IsTrue, List, ℕ, Option};
+ghost use Rattle.std.specs.Prelude.{◌≡◌, ◌≢◌, ◌+◌, ◌<◌, ◌^◌, ◌↔◌, All, IsTrue, List, ℕ, Option};
 ghost use Rattle.std.specs.Ordering.{nat_cmp, ordering_then};
 ghost use Rattle.seat_history.specs.Change.{Changes, is_change};
 ghost use Rattle.seat_history.specs.Contents.{Contents};
 ghost use Rattle.seat_history.specs.Key.{key_number};
+ghost use Rattle.seat_history.specs.Pairs.{ArePairsOf, IsPairInRange, Pairs};
 ghost use Rattle.seat_history.specs.Step.{reply_to};
 ghost use Rattle.seat_history.specs.declared.call.Call.{Call};
 ghost use Rattle.seat_history.specs.declared.key.KeyWords.{KeyWords};
@@ -30,4 +31,10 @@ pub fn pair_fills_record()
 pub fn key_order_is_kept()
     ensures { (a b : KeyWords) → a.k1 < 2 ^ 64 → b.k1 < 2 ^ 64
         → nat_cmp (key_number a) (key_number b) ≡ ordering_then (nat_cmp a.k0 b.k0) (nat_cmp a.k1 b.k1) }
+{}
+
+/// Values have one list of pairs, by rising key.
+pub fn pairs_are_one()
+    ensures { (values : ℕ → Option (List ℕ)) (pairs others : Pairs) → ArePairsOf values pairs → ArePairsOf values others
+        → All IsPairInRange pairs → All IsPairInRange others → pairs ≡ others }
 {}

@@ -19,7 +19,7 @@ mod words;
 pub use call::Call;
 pub use entry::Entry;
 pub use key::KeyWords;
-pub use laws::{change_is_told, key_order_is_kept, never_full, pair_fills_record};
+pub use laws::{change_is_told, key_order_is_kept, never_full, pair_fills_record, pairs_are_one};
 pub use pair_list::PairList;
 pub use plain::{CALLERS, Plain};
 pub use reply::Reply;
