@@ -7,6 +7,7 @@ pub mod Orders
 pub mod Spelled
 pub mod Causes
 pub mod SoFar
+pub mod SomeRun
 pub mod OneCall
 pub mod OneReading
 pub mod OneRun

@@ -22,7 +22,7 @@ mod writing;
 
 pub use bad_script::{BadScript, LineCause};
 pub use driven::Driven;
-pub use laws::order_has_one_run;
+pub use laws::{lines_have_a_run, order_has_one_run};
 pub use line_list::LineList;
 pub use plain_run::run_plain;
 pub use reading::read_script;

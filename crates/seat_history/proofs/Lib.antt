@@ -4,3 +4,4 @@ pub mod Histories
 pub mod Numbered
 pub mod Replies
 pub mod SamePairs
+pub mod SetPairs

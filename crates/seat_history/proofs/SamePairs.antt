@@ -15,10 +15,10 @@ use Rattle.seat_history.specs.Pairs.{ArePairsOf, HasRisingKeys, IsPairInRange, P
 use Rattle.seat_history.specs.declared.key.KeyWords.{KeyWords}
 
 -- each key's number is above n
-abbrev AreAbove : ℕ → Pairs → Type 0
+abbrev pub AreAbove : ℕ → Pairs → Type 0
 AreAbove n pairs = AllByRecursion (λ pair. n < key_number pair.0) pairs
 
-abbrev Rise : Pairs → Type 0
+abbrev pub Rise : Pairs → Type 0
 Rise [] = ⊤
 Rise (pair ∷ pairs) = AreAbove (key_number pair.0) pairs × Rise pairs
 
@@ -33,12 +33,12 @@ rise_from_sorted : (pairs : Pairs) → IsStrictlySortedBy nat_cmp (map key_numbe
 rise_from_sorted [] h = tt
 rise_from_sorted (pair ∷ pairs) h = (above_from_sorted (key_number pair.0) pairs (sorted_head nat_cmp _ _ h), rise_from_sorted pairs (sorted_tail nat_cmp _ _ h))
 
-above_lower : (m n : ℕ) (pairs : Pairs) → m < n → AreAbove n pairs → AreAbove m pairs
+pub above_lower : (m n : ℕ) (pairs : Pairs) → m < n → AreAbove n pairs → AreAbove m pairs
 above_lower m n [] lower h = tt
 above_lower m n (pair ∷ pairs) lower h = let first = h.0 in (omega arith, above_lower m n pairs lower h.1)
 
 -- no key has a number below them all
-none_below : (n : ℕ) (pairs : Pairs) → AreAbove n pairs → value_in pairs n ≡ None
+pub none_below : (n : ℕ) (pairs : Pairs) → AreAbove n pairs → value_in pairs n ≡ None
 none_below n [] h = refl
 none_below n (pair ∷ pairs) h =
     let first = h.0 in
