@@ -6,7 +6,8 @@ use Rattle.wire_ports.specs.Bytes.{IsReadOf, Appends}
 
 -- one read after the other
 pub after_more : (a b c : Option (List ℕ)) (xs ys : List ℕ) → IsReadOf a xs b → IsReadOf b ys c → IsReadOf a (xs ++ ys) c
-after_more None b c xs ys first second = tt
+after_more None None c xs ys first second = second
+after_more None (Some rest) c xs ys first second = absurd (cc first)
 after_more (Some whole) None c xs ys first second = let no : None ≡ Some first.0 = first.2 in absurd (cc no)
 after_more (Some whole) (Some rest) c xs ys first second =
     let same : rest ≡ first.0 = cc (first.2) in
@@ -14,7 +15,8 @@ after_more (Some whole) (Some rest) c xs ys first second =
 
 -- one write after the other
 pub appends_more : (a b c : Option (List ℕ)) (xs ys : List ℕ) → Appends a xs b → Appends b ys c → Appends a (xs ++ ys) c
-appends_more None b c xs ys first second = tt
+appends_more None None c xs ys first second = second
+appends_more None (Some rest) c xs ys first second = absurd (cc first)
 appends_more (Some whole) None c xs ys first second = absurd (cc first)
 appends_more (Some whole) (Some rest) c xs ys first second =
     let same : rest ≡ whole ++ xs = cc first in

@@ -6,5 +6,6 @@ pub mod MemoryReading
 pub mod MemoryTaking
 pub mod NamedBytes
 pub mod Ports
+pub mod Putting
 pub mod Reading
 pub mod Taking

@@ -14,6 +14,11 @@ Names = map.FinMap (slice_cmp nat_cmp) (List ℕ)
 abbrev pub bytes_under : Names → List ℕ → List ℕ
 bytes_under names name = unwrap_or (map.get names name) []
 
+-- what is left of a file that was just started: the bytes under its name, told exactly where the files are
+abbrev pub left_at_start : Option Names → List ℕ → Option (List ℕ)
+left_at_start None name = None
+left_at_start (Some names) name = Some (bytes_under names name)
+
 -- a count goes up by one, to 2^64 - 1 at most
 abbrev pub one_more : ℕ → ℕ
 one_more n = min (n + 1) (2 ^ 64 - 1)

@@ -1,7 +1,7 @@
 ghost use Rattle.std.specs.Prelude.{◌≡◌, ◌+◌, ◌<◌, ◌≤◌, ◌↔◌, List, ℕ, Bool, Option, Some, true, length, take, is_ok, IfOk, IfSome, OnOk, OnErr};
 ghost use Rattle.wire_ports.specs.declared.feed.FailedIn.{FailedIn};
 ghost use Rattle.wire_ports.specs.declared.feed.FailedIn.TheVariants.{Read};
-ghost use Rattle.wire_ports.specs.Ports.{HasRisen, Names, bytes_under, IsStartFailure};
+ghost use Rattle.wire_ports.specs.Ports.{HasRisen, Names, left_at_start, IsStartFailure};
 ghost use Rattle.wire_ports.specs.Bytes.{IsReadOf};
 
 /// A call of a port failed. The port's count of faults rose.
@@ -48,10 +48,10 @@ pub trait Feed {
         ensures files { files self.new ≡ files self.old }
         ensures current { current self.new ≡ file }
         ensures started { started self.new ≡ is_ok result }
-        ensures left { OnOk result (IfSome (files self.old)
-            (λ names. left self.new ≡ Some (bytes_under names name.now))) }
+        ensures left { OnOk result (left self.new ≡ left_at_start (files self.old) name.now) }
         ensures given { OnOk result (given self.new ≡ 0) }
         ensures quiet { OnOk result (failed self.new ≡ failed self.old) }
+        ensures steady { OnOk result (faults self.new ≡ faults self.old) }
         ensures later { faults self.old ≤ faults self.new }
         ensures risen { OnErr result (HasRisen (faults self.old) (faults self.new)) }
         ensures cause { OnErr result
@@ -73,6 +73,7 @@ pub trait Feed {
         ensures quiet { OnOk result (failed self.new ≡ failed self.old) }
         ensures kept { OnErr result (left self.new ≡ left self.old) }
         ensures none_given { OnErr result (given self.new ≡ given self.old) }
+        ensures steady { OnOk result (faults self.new ≡ faults self.old) }
         ensures later { faults self.old ≤ faults self.new }
         ensures risen { OnErr result (HasRisen (faults self.old) (faults self.new)) }
         ensures cause { OnErr result (failed self.new ≡ Some (current self.old, Read)) };

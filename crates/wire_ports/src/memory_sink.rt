@@ -1,5 +1,5 @@
 ghost use Rattle.std.specs.Prelude.{◌≡◌, ◌<◌, ◌≤◌, ◌⊎◌, ◌↔◌, Some, [], length, take, min, IsErr, IfOk, OnErr};
-ghost use Rattle.wire_ports.specs.MemoryTaking.{IsDue, after_write, after_failed_write};
+ghost use Rattle.wire_ports.specs.MemoryTaking.{IsDue, IsWrite, after_write, after_failed_write};
 ghost use Rattle.wire_ports.specs.Ports.{HasRisen};
 
 use crate::failing_calls::FailingCalls;
@@ -74,6 +74,8 @@ impl Sink for MemorySink {
     ghost taken = { λ s. Some s.taking.taken };
 
     ghost faults = { λ s. s.taking.faults };
+
+    ghost writes = { λ s bytes answer t. IsWrite bytes s answer t };
 
     fn write(&mut self, bytes: &[u8]) -> Result<usize, Failed>
         requires { 0 < length bytes.now }

@@ -36,6 +36,8 @@ impl<W: Write> Sink for StdSink<W> {
 
     ghost faults = { λ s. s };
 
+    ghost writes = { λ s bytes answer t. t ≡ (if is_err answer then one_more s else s) };
+
     fn write(&mut self, bytes: &[u8]) -> Result<usize, Failed>
         requires { 0 < length bytes.now }
         ensures some { IfOk result (λ n. 0 < n) }

@@ -1,6 +1,6 @@
 ghost use Rattle.std.specs.Prelude.{◌≡◌, ◌+◌, ◌<◌, ◌≤◌, ◌↔◌, Some, [], length, take, min, IsErr, IfOk, OnOk, OnErr};
 ghost use Rattle.wire_ports.specs.Ports.{HasRisen};
-ghost use Rattle.wire_ports.specs.Taking.{after_write, after_failed_write};
+ghost use Rattle.wire_ports.specs.Taking.{IsWrite, after_write, after_failed_write};
 
 use crate::feed::Failed;
 use crate::no_memory::NoMemory;
@@ -59,6 +59,8 @@ impl Sink for SteadySink {
     ghost taken = { λ s. Some s.taken };
 
     ghost faults = { λ s. s.faults };
+
+    ghost writes = { λ s bytes answer t. IsWrite bytes s answer t };
 
     fn write(&mut self, bytes: &[u8]) -> Result<usize, Failed>
         requires { 0 < length bytes.now }

@@ -1,4 +1,4 @@
-ghost use Rattle.std.specs.Prelude.{◌≡◌, ◌+◌, ◌<◌, ◌≤◌, Some, [], true, length, IfOk, IfSome, OnOk, IsErrOf};
+ghost use Rattle.std.specs.Prelude.{◌≡◌, ◌+◌, ◌<◌, ◌≤◌, Some, [], true, length, option_map, IfOk, IfSome, OnOk, IsErrOf};
 ghost use Rattle.wire_ports.specs.declared.feed.FailedIn.TheVariants.{Read};
 ghost use Rattle.wire_ports.specs.declared.whole.ReadEnd.TheVariants.{NoMemory};
 ghost use Rattle.wire_ports.specs.Bytes.{IsLonger};
@@ -33,7 +33,8 @@ const PIECE: usize = 1 << 18;
 pub fn read_whole<F: Feed>(alloc: Global, feed: &mut F, most: usize) -> Result<Vec<u8>, ReadEnd>
     requires { F.started feed.old ≡ true }
     ensures whole { IfOk result (λ v. IfSome (F.left feed.old) (λ bytes. v.items ≡ bytes)) }
-    ensures end { OnOk result (IfSome (F.left feed.old) (λ _. F.left feed.new ≡ Some [])) }
+    ensures end { OnOk result (F.left feed.new ≡ option_map (λ _. []) (F.left feed.old)) }
+    ensures started { OnOk result (F.started feed.new ≡ true) }
     ensures most { IfOk result (λ v. length v.items ≤ most) }
     ensures too_large { IsErrOf result ReadEnd.TooLarge → IsLonger most (F.left feed.old) }
 
@@ -47,7 +48,8 @@ pub fn read_whole<F: Feed>(alloc: Global, feed: &mut F, most: usize) -> Result<V
         HasRisen (F.faults feed.old) (F.faults feed.new) }
     ensures cause { IsErrOf result ReadEnd.Failed →
         F.failed feed.new ≡ Some (F.current feed.old, Read) }
-    ensures quiet { OnOk result (F.failed feed.new ≡ F.failed feed.old) }
+    ensures quiet { ¬ IsErrOf result ReadEnd.Failed → F.failed feed.new ≡ F.failed feed.old }
+    ensures steady { ¬ IsErrOf result ReadEnd.Failed → F.faults feed.new ≡ F.faults feed.old }
     ensures later { F.faults feed.old ≤ F.faults feed.new }
     ensures files { F.files feed.new ≡ F.files feed.old }
     ensures current { F.current feed.new ≡ F.current feed.old }

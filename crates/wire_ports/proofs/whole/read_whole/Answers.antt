@@ -28,5 +28,5 @@ pieces-preserved g c =
       current = c.in-Ok.ensures.current ∙ c.pieces.invariant.current;
       files = c.in-Ok.ensures.files ∙ c.pieces.invariant.files;
       quiet = c.in-Ok.ensures.quiet ∙ c.pieces.invariant.quiet;
-      later = omega (arith, c.in-Ok.ensures.later, c.pieces.invariant.later);
+      steady = c.in-Ok.ensures.steady ∙ c.pieces.invariant.steady;
     }

@@ -12,7 +12,7 @@ invariant-pieces g l = let F = g.F.Feed in record {
   current : F.current l.feed ≡ F.current l.fn.feed;
   files : F.files l.feed ≡ F.files l.fn.feed;
   quiet : F.failed l.feed ≡ F.failed l.fn.feed;
-  later : F.faults l.fn.feed ≤ F.faults l.feed;
+  steady : F.faults l.feed ≡ F.faults l.fn.feed;
 }
 
 abbrev pub decreases-pieces : goal.decreases-pieces
