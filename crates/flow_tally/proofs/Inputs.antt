@@ -1,14 +1,12 @@
 -- Files are read one after the other: one more that is tallied, and the first that isn't.
 use Rattle.std.specs.Prelude.{slice_get, Ok, Err, map}
 use Rattle.std.specs.List.{AllByRecursion}
-use Rattle.std.proofs.Common.{◌≡◌, ◌∙◌, ℕ, ◌+◌, ◌-◌, ◌≤◌, ◌^◌, Option, Some, None, List, [], ◌∷◌, ◌++◌, length, take, refl, sym, ap, ap₂, subst, arith, inl, inr}
-use Rattle.std.proofs.lemmas.Bool.{cases_lt}
+use Rattle.std.proofs.Common.{◌≡◌, ◌∙◌, ℕ, ◌+◌, ◌-◌, ◌≤◌, Option, Some, None, List, [], ◌∷◌, ◌++◌, length, take, refl, sym, ap, ap₂, subst, arith}
 use Rattle.std.proofs.lemmas.List.{length-append, append-nil, map-append, take_all}
-use Rattle.wire_ports.specs.Ports.{Names, HasRisen, bytes_under}
-use Rattle.wire_ports.specs.declared.feed.FailedIn.{FailedIn}
+use Rattle.wire_ports.specs.Ports.{Names, bytes_under}
 use Rattle.netflow_five.specs.File.{joined, IsFile, IsWellFormed}
 use Rattle.netflow_five.proofs.Files.{joined-append, files_joined}
-use Rattle.flow_tally.specs.Input.{most_bytes, AreContents, IsBytesOf, IsAt, IsTooLarge, RefusesFiles}
+use Rattle.flow_tally.specs.Input.{most_bytes, AreContents, FeedShown, IsReadOut, StopsAt, IsBytesOf, IsAt, IsTooLarge, RefusesFiles}
 use Rattle.flow_tally.specs.Reading.{IsLongerFile, Reads, AddsFile, IsTalliedOf, HasRead}
 use Rattle.flow_tally.specs.Tallied.{HasTallied}
 use Rattle.flow_tally.specs.declared.status.Status.{Status}
@@ -59,9 +57,10 @@ joined_more : (contents : List (List ℕ)) (bytes : List ℕ) → joined (conten
 joined_more contents bytes = joined-append contents (bytes ∷ []) ∙ ap (λ (z : List ℕ). joined contents ++ z) (append-nil bytes)
 
 -- one file more
-pub file_so_far : (names : Option Names) (files : List (List ℕ)) (i left n : ℕ) (name : List ℕ) (before after : ℕ) (failed : Option (ℕ × FailedIn)) (file : ℕ) (old new : Tallied)
-    → slice_get files i ≡ Some name → SoFar names files i left old → AddsFile left names name before after failed file old new (Ok n) → SoFar names files (i + 1) (left - n) new
-file_so_far names files i left n name before after failed file old new is so_far adds =
+pub file_so_far : (feed : FeedShown) (files : List (List ℕ)) (i left n : ℕ) (name : List ℕ) (file : ℕ) (old new : Tallied)
+    → slice_get files i ≡ Some name → SoFar feed.names files i left old → AddsFile left feed name file old new (Ok n) → SoFar feed.names files (i + 1) (left - n) new
+file_so_far feed files i left n name file old new is so_far adds =
+    let names = feed.names in
     let contents = so_far.0 in
     let ds = so_far.1 in
     let had = so_far.2 in
@@ -86,9 +85,14 @@ file_so_far names files i left n name before after failed file old new is so_far
     )
 
 -- after the last file all were read
-pub all_so_far : (names : Option Names) (files : List (List ℕ)) (i left : ℕ) (tallied : Tallied) → length files ≤ i → SoFar names files i left tallied → HasRead names files tallied
-all_so_far names files i left tallied end so_far =
-    (so_far.0, so_far.1, subst (λ (fs : List (List ℕ)). AreContents names fs so_far.0) (take_all i files end) so_far.2.told, so_far.2.sum)
+pub all_so_far : (feed : FeedShown) (files : List (List ℕ)) (i left : ℕ) (tallied : Tallied) → i ≡ length files → SoFar feed.names files i left tallied → IsReadOut i feed → HasRead feed files tallied
+all_so_far feed files i left tallied end so_far out = (
+  subst (λ (n : ℕ). IsReadOut n feed) end out,
+  so_far.0,
+  so_far.1,
+  subst (λ (fs : List (List ℕ)). AreContents feed.names fs so_far.0) (take_all i files (omega arith)) so_far.2.told,
+  so_far.2.sum,
+)
 
 at_file : (names : Option Names) (files : List (List ℕ)) (i left : ℕ) (name : List ℕ) (tallied : Tallied) (contents ds : List (List ℕ)) (file : ℕ)
     → slice_get files i ≡ Some name → file ≡ i + 1 → ReadSoFar names files i left contents ds tallied → IsAt names files file contents name
@@ -107,57 +111,60 @@ too_large (Some names) contents name left room longer = omega arith
 alone : (names : Option Names) (name : List ℕ) (file : ℕ) → file ≡ 1 → IsAt names (name ∷ []) file [] name
 alone names name file is = record { number = is; name_there = refl; told = no_contents names; good = record { each = tt; within = omega arith } }
 
--- a rise counts from any time before
-risen_later : (a b c : ℕ) → HasRisen b c → a ≤ b → b ≤ c → HasRisen a c
-risen_later a b c (inl lt) first second = inl (omega arith)
-risen_later a b c (inr is) first second = elim (cases_lt a b) [ inl lt ↦ inl (omega arith) | inr ge ↦ let same : a ≡ 2 ^ 64 - 1 = omega arith in inr same ]
-
 -- a file that can't be tallied
-pub file_refused : (names : Option Names) (files : List (List ℕ)) (i left : ℕ) (name : List ℕ) (first before after : ℕ) (failed : Option (ℕ × FailedIn)) (file : ℕ) (old new : Tallied) (status : Status)
-    → slice_get files i ≡ Some name → file ≡ i + 1 → first ≤ before → before ≤ after → SoFar names files i left old → AddsFile left names name before after failed file old new (Err status)
-    → RefusesFiles files (record { names = names; before = first; after = after; failed = failed }) status
-file_refused names files i left name first before after failed file old new (OpenFault number) is number_is earlier later so_far adds = (
+pub file_refused : (feed : FeedShown) (files : List (List ℕ)) (i left : ℕ) (name : List ℕ) (file : ℕ) (old new : Tallied) (status : Status)
+    → slice_get files i ≡ Some name → file ≡ i + 1 → feed.current ≡ file → SoFar feed.names files i left old → AddsFile left feed name file old new (Err status) → RefusesFiles files feed status
+file_refused feed files i left name file old new (OpenFault number) is number_is last so_far adds = (
   so_far.0,
   name,
-  at_file names files i left name old so_far.0 so_far.1 number is (adds.0 ∙ number_is) so_far.2,
-  risen_later first before after adds.1 earlier later,
-  adds.2,
-)
-file_refused names files i left name first before after failed file old new (ReadFault number) is number_is earlier later so_far adds = (
-  so_far.0,
-  name,
-  at_file names files i left name old so_far.0 so_far.1 number is (adds.0 ∙ number_is) so_far.2,
-  risen_later first before after adds.1 earlier later,
-  adds.2,
-)
-file_refused names files i left name first before after failed file old new (InputTooLarge number) is number_is earlier later so_far adds =
-    (so_far.0, name, at_file names files i left name old so_far.0 so_far.1 number is (adds.0 ∙ number_is) so_far.2, too_large names so_far.0 name left so_far.2.room adds.1)
-file_refused names files i left name first before after failed file old new (BadDatagram number offset cause) is number_is earlier later so_far adds = (
-  so_far.0,
-  name,
+  at_file feed.names files i left name old so_far.0 so_far.1 number is (adds.0 ∙ number_is) so_far.2,
   adds.1,
-  at_file names files i left name old so_far.0 so_far.1 number is (adds.0 ∙ number_is) so_far.2,
-  record { told = adds.2; within = omega (arith, adds.3, so_far.2.room); bad = adds.4 },
+  adds.2,
+  last ∙ sym adds.0,
 )
-file_refused names files i left name first before after failed file old new NoMemory is number_is earlier later so_far adds = tt
-file_refused names files i left name first before after failed file old new Done is number_is earlier later so_far adds = absurd adds
-file_refused names files i left name first before after failed file old new Usage is number_is earlier later so_far adds = absurd adds
-file_refused names files i left name first before after failed file old new (WriteFault written) is number_is earlier later so_far adds = absurd adds
-file_refused names files i left name first before after failed file old new (TooManyFlows limit) is number_is earlier later so_far adds = absurd adds
-file_refused names files i left name first before after failed file old new (BadScript fault) is number_is earlier later so_far adds = absurd adds
-file_refused names files i left name first before after failed file old new (PlanTooLarge nodes) is number_is earlier later so_far adds = absurd adds
+file_refused feed files i left name file old new (ReadFault number) is number_is last so_far adds = (
+  so_far.0,
+  name,
+  at_file feed.names files i left name old so_far.0 so_far.1 number is (adds.0 ∙ number_is) so_far.2,
+  adds.1,
+  adds.2,
+  last ∙ sym adds.0,
+)
+file_refused feed files i left name file old new (InputTooLarge number) is number_is last so_far adds = (
+  (so_far.0, name, at_file feed.names files i left name old so_far.0 so_far.1 number is (adds.0 ∙ number_is) so_far.2, too_large feed.names so_far.0 name left so_far.2.room adds.1),
+  subst (λ (n : ℕ). StopsAt n feed) (sym adds.0) adds.2,
+)
+file_refused feed files i left name file old new (BadDatagram number offset cause) is number_is last so_far adds = (
+  (
+    so_far.0,
+    name,
+    adds.1,
+    at_file feed.names files i left name old so_far.0 so_far.1 number is (adds.0 ∙ number_is) so_far.2,
+    record { told = adds.2; within = omega (arith, adds.3, so_far.2.room); bad = adds.4 },
+  ),
+  subst (λ (n : ℕ). StopsAt n feed) (sym adds.0) adds.5,
+)
+file_refused feed files i left name file old new NoMemory is number_is last so_far adds = tt
+file_refused feed files i left name file old new Done is number_is last so_far adds = absurd adds
+file_refused feed files i left name file old new Usage is number_is last so_far adds = absurd adds
+file_refused feed files i left name file old new (WriteFault written) is number_is last so_far adds = absurd adds
+file_refused feed files i left name file old new (TooManyFlows limit) is number_is last so_far adds = absurd adds
+file_refused feed files i left name file old new (BadScript fault) is number_is last so_far adds = absurd adds
+file_refused feed files i left name file old new (PlanTooLarge nodes) is number_is last so_far adds = absurd adds
 
 -- a file that is read alone and fails
-pub one_refused : (names : Option Names) (name : List ℕ) (before after : ℕ) (failed : Option (ℕ × FailedIn)) (status : Status)
-    → Reads most_bytes names name before after failed 1 (Err status) → RefusesFiles (name ∷ []) (record { names = names; before = before; after = after; failed = failed }) status
-one_refused names name before after failed (OpenFault number) reads = ([], name, alone names name number reads.0, reads.1, reads.2)
-one_refused names name before after failed (ReadFault number) reads = ([], name, alone names name number reads.0, reads.1, reads.2)
-one_refused names name before after failed (InputTooLarge number) reads = ([], name, alone names name number reads.0, too_large names [] name most_bytes (omega arith) reads.1)
-one_refused names name before after failed NoMemory reads = tt
-one_refused names name before after failed Done reads = absurd reads
-one_refused names name before after failed Usage reads = absurd reads
-one_refused names name before after failed (WriteFault written) reads = absurd reads
-one_refused names name before after failed (BadDatagram file offset cause) reads = absurd reads
-one_refused names name before after failed (TooManyFlows limit) reads = absurd reads
-one_refused names name before after failed (BadScript fault) reads = absurd reads
-one_refused names name before after failed (PlanTooLarge nodes) reads = absurd reads
+pub one_refused : (feed : FeedShown) (name : List ℕ) (status : Status) → feed.current ≡ 1 → Reads most_bytes feed name 1 (Err status) → RefusesFiles (name ∷ []) feed status
+one_refused feed name (OpenFault number) last reads = ([], name, alone feed.names name number reads.0, reads.1, reads.2, last ∙ sym reads.0)
+one_refused feed name (ReadFault number) last reads = ([], name, alone feed.names name number reads.0, reads.1, reads.2, last ∙ sym reads.0)
+one_refused feed name (InputTooLarge number) last reads = (
+  ([], name, alone feed.names name number reads.0, too_large feed.names [] name most_bytes (omega arith) reads.1),
+  subst (λ (n : ℕ). StopsAt n feed) (sym reads.0) reads.2,
+)
+one_refused feed name NoMemory last reads = tt
+one_refused feed name Done last reads = absurd reads
+one_refused feed name Usage last reads = absurd reads
+one_refused feed name (WriteFault written) last reads = absurd reads
+one_refused feed name (BadDatagram file offset cause) last reads = absurd reads
+one_refused feed name (TooManyFlows limit) last reads = absurd reads
+one_refused feed name (BadScript fault) last reads = absurd reads
+one_refused feed name (PlanTooLarge nodes) last reads = absurd reads

@@ -5,7 +5,7 @@ use Rattle.wire_ports.specs.Bytes.{Appends}
 use Rattle.wire_ports.specs.Ports.{Names, HasRisen}
 use Rattle.flow_tally.specs.Input.{FeedShown}
 use Rattle.flow_tally.specs.OutShown.{OutShown}
-use Rattle.flow_tally.specs.Outcome.{Says, NothingSays, TallySays, Determines, IsDecided, IsReportOf}
+use Rattle.flow_tally.specs.Outcome.{Says, NothingSays, TallySays, Determines, IsDecided, HasOutput, IsReportOf}
 use Rattle.flow_tally.specs.Words.{Tally, Command, OfTally, OfDrive}
 use Rattle.flow_tally.specs.declared.status.Status.{Status}
 use Rattle.flow_tally.specs.declared.status.Status.TheVariants.{Done, Usage, OpenFault, ReadFault, WriteFault, BadDatagram, TooManyFlows, InputTooLarge, BadScript, NoMemory, PlanTooLarge}
@@ -28,14 +28,14 @@ nothing_decided names out (PlanTooLarge nodes) says = absurd says
 
 tally_decided : (tally : Tally) (feed : FeedShown) (names : Names) (out : OutShown) (status : Status)
     → TallySays tally (record feed { names = Some names }) out status → IsDecided (Some (OfTally tally)) names status
-tally_decided tally feed names out Done says = (says.0, says.1, says.2)
+tally_decided tally feed names out Done says = (says.1.0, says.0, says.1.2)
 tally_decided tally feed names out Usage says = absurd says.0.1
 tally_decided tally feed names out (OpenFault file) says = tt
 tally_decided tally feed names out (ReadFault file) says = tt
-tally_decided tally feed names out (WriteFault written) says = (says.0, says.2, says.3)
-tally_decided tally feed names out (BadDatagram file offset cause) says = says.0
-tally_decided tally feed names out (TooManyFlows limit) says = says.0
-tally_decided tally feed names out (InputTooLarge file) says = says.0
+tally_decided tally feed names out (WriteFault written) says = (says.1.0, says.0, says.1.2)
+tally_decided tally feed names out (BadDatagram file offset cause) says = (says.0.0, says.0.1.0)
+tally_decided tally feed names out (TooManyFlows limit) says = (says.0.0, says.0.1, says.0.2)
+tally_decided tally feed names out (InputTooLarge file) says = (says.0.0, says.0.1.0)
 tally_decided tally feed names out NoMemory says = tt
 tally_decided tally feed names out (BadScript fault) says = absurd says.0.1
 tally_decided tally feed names out (PlanTooLarge nodes) says = says.0
@@ -65,8 +65,8 @@ read_risen (Some (OfDrive drive)) feed out file says = says.0.3
 
 write_risen : (asked : Option Command) (feed : FeedShown) (out : OutShown) (written : ℕ) → Says asked feed out (WriteFault written) → HasRisen out.before out.after
 write_risen None feed out written says = absurd says
-write_risen (Some (OfTally tally)) feed out written says = says.1
-write_risen (Some (OfDrive drive)) feed out written says = says.0
+write_risen (Some (OfTally tally)) feed out written says = says.2.risen
+write_risen (Some (OfDrive drive)) feed out written says = says.2.risen
 
 -- the status that is determined is told, unless a device failed or memory ran out
 pub complete : (asked : Option Command) (feed : FeedShown) (out : OutShown) (names : Names) (status result : Status) → feed.names ≡ Some names
@@ -90,7 +90,49 @@ done_appends None feed out names text told says is = absurd is
 done_appends (Some (OfDrive drive)) feed out names text told says is = absurd is
 done_appends (Some (OfTally tally)) feed out names text told says is =
     let known = says_told (Some (OfTally tally)) feed out names Done told says in
-    subst (λ (z : List ℕ). Appends out.taken_before z out.taken_after) (one_report tally names known.1 text known.2 is) known.3
+    subst (λ (z : List ℕ). Appends out.taken_before z out.taken_after) (one_report tally names known.0 text known.1.2 is) known.2.all
+
+nothing_put : (names : Names) (out : OutShown) (status : Status) → NothingSays out status → HasOutput None names out status
+nothing_put names out Usage says = says
+nothing_put names out NoMemory says = says
+nothing_put names out Done says = absurd says
+nothing_put names out (OpenFault file) says = absurd says
+nothing_put names out (ReadFault file) says = absurd says
+nothing_put names out (WriteFault written) says = absurd says
+nothing_put names out (BadDatagram file offset cause) says = absurd says
+nothing_put names out (TooManyFlows limit) says = absurd says
+nothing_put names out (InputTooLarge file) says = absurd says
+nothing_put names out (BadScript fault) says = absurd says
+nothing_put names out (PlanTooLarge nodes) says = absurd says
+
+put : (asked : Option Command) (feed : FeedShown) (out : OutShown) (names : Names) (status : Status) → Says asked (record feed { names = Some names }) out status → HasOutput asked names out status
+put None feed out names status says = nothing_put names out status says
+put (Some (OfTally tally)) feed out names Done says = (says.0, says.1.2, says.2)
+put (Some (OfTally tally)) feed out names (WriteFault written) says = (says.0, says.1.2, says.2)
+put (Some (OfTally tally)) feed out names Usage says = says.1
+put (Some (OfTally tally)) feed out names (OpenFault file) says = says.1
+put (Some (OfTally tally)) feed out names (ReadFault file) says = says.1
+put (Some (OfTally tally)) feed out names (BadDatagram file offset cause) says = says.1
+put (Some (OfTally tally)) feed out names (TooManyFlows limit) says = says.1
+put (Some (OfTally tally)) feed out names (InputTooLarge file) says = says.1
+put (Some (OfTally tally)) feed out names (BadScript fault) says = says.1
+put (Some (OfTally tally)) feed out names NoMemory says = says.1
+put (Some (OfTally tally)) feed out names (PlanTooLarge nodes) says = says.1
+put (Some (OfDrive drive)) feed out names Done says = (says.0, says.1.1, says.2)
+put (Some (OfDrive drive)) feed out names (WriteFault written) says = (says.0, says.1.1, says.2)
+put (Some (OfDrive drive)) feed out names Usage says = says.1
+put (Some (OfDrive drive)) feed out names (OpenFault file) says = says.1
+put (Some (OfDrive drive)) feed out names (ReadFault file) says = says.1
+put (Some (OfDrive drive)) feed out names (BadDatagram file offset cause) says = says.1
+put (Some (OfDrive drive)) feed out names (TooManyFlows limit) says = says.1
+put (Some (OfDrive drive)) feed out names (InputTooLarge file) says = says.1
+put (Some (OfDrive drive)) feed out names (BadScript fault) says = says.1
+put (Some (OfDrive drive)) feed out names NoMemory says = says.1
+put (Some (OfDrive drive)) feed out names (PlanTooLarge nodes) says = says.1
+
+-- the output is the one that the words ask for, whole, in part or not at all
+pub has_output : (asked : Option Command) (feed : FeedShown) (out : OutShown) (names : Names) (status : Status) → feed.names ≡ Some names → Says asked feed out status → HasOutput asked names out status
+has_output asked feed out names status told says = put asked feed out names status (says_told asked feed out names status told says)
 
 -- at Done the output is the report that words and files determine
 pub reported : (asked : Option Command) (feed : FeedShown) (out : OutShown) (names : Names) (text : List ℕ) (result : Status) → feed.names ≡ Some names

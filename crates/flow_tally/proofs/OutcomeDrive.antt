@@ -1,9 +1,7 @@
 -- What a status says of a drive is what its file determines, devices and memory aside.
 use Rattle.std.specs.Prelude.{slice_get, MatchOption, Err}
-use Rattle.std.proofs.Common.{◌≡◌, ◌∙◌, ℕ, ◌<◌, ◌≤◌, Option, Some, None, List, [], ◌∷◌, length, take, refl, sym, ap, subst, arith}
-use Rattle.wire_ports.specs.Bytes.{Appends}
+use Rattle.std.proofs.Common.{◌≡◌, ◌∙◌, ℕ, ◌<◌, ◌≤◌, Option, Some, None, List, [], ◌∷◌, length, refl, sym, ap, subst, arith}
 use Rattle.wire_ports.specs.Ports.{Names, bytes_under}
-use Rattle.wire_ports.specs.declared.feed.FailedIn.{FailedIn}
 use Rattle.netflow_five.specs.File.{joined}
 use Rattle.seat_history.specs.declared.entry.Entry.{Entry}
 use Rattle.call_script.specs.Cut.{lines_of}
@@ -11,9 +9,9 @@ use Rattle.call_script.specs.Script.{Reading, Good, Bad, Many, ReadAs, bad_readi
 use Rattle.call_script.specs.declared.bad_script.BadScript.{BadScript as ScriptFault}
 use Rattle.call_script.specs.declared.bad_script.BadScript.TheVariants.{BadLine, TooMany, NoMemory as OutOfMemory}
 use Rattle.call_script.proofs.OneReading.{one_reading}
-use Rattle.flow_tally.specs.DriveOutcome.{IsDriven, HasFault, RefusesDrive, DriveSays, DeterminesDrive}
+use Rattle.flow_tally.specs.DriveOutcome.{IsDriven, Drives, HasFault, RefusesDrive, DriveSays, DeterminesDrive}
 use Rattle.flow_tally.specs.Input.{most_bytes, FeedShown, IsFirstTooLarge, RefusesFiles}
-use Rattle.flow_tally.specs.OutShown.{OutShown, Took}
+use Rattle.flow_tally.specs.OutShown.{OutShown, Took, TookAll, TookFront}
 use Rattle.flow_tally.specs.Outcome.{IsDecided}
 use Rattle.flow_tally.specs.Reading.{Reads}
 use Rattle.flow_tally.specs.Telling.{HasNumbers}
@@ -39,15 +37,15 @@ no_memory_of_drive drive feed out (PlanTooLarge nodes) before says = (tt, says.1
 -- it is what words and files determine
 pub drive_decided : (drive : Drive) (feed : FeedShown) (names : Names) (out : OutShown) (status : Status)
     → DriveSays drive (record feed { names = Some names }) out status → IsDecided (Some (OfDrive drive)) names status
-drive_decided drive feed names out Done says = (says.0, says.1)
+drive_decided drive feed names out Done says = (says.0, says.1.1)
 drive_decided drive feed names out Usage says = absurd says.0
 drive_decided drive feed names out (OpenFault file) says = tt
 drive_decided drive feed names out (ReadFault file) says = tt
-drive_decided drive feed names out (WriteFault written) says = (says.1, says.2)
+drive_decided drive feed names out (WriteFault written) says = (says.0, says.1.1)
 drive_decided drive feed names out (BadDatagram file offset cause) says = absurd says.0
 drive_decided drive feed names out (TooManyFlows limit) says = absurd says.0
-drive_decided drive feed names out (InputTooLarge file) says = says.0
-drive_decided drive feed names out (BadScript fault) says = says.0
+drive_decided drive feed names out (InputTooLarge file) says = says.0.0
+drive_decided drive feed names out (BadScript fault) says = says.0.0
 drive_decided drive feed names out NoMemory says = tt
 drive_decided drive feed names out (PlanTooLarge nodes) says = absurd says.0
 
@@ -148,14 +146,12 @@ module _ (drive : Drive) (names : Names) where
   one_for_drive s (PlanTooLarge n) a b = absurd b
 
 -- a file that is read alone and fails refuses the drive
-pub read_refuses : (drive : Drive) (names : Option Names) (name : List ℕ) (before after : ℕ) (failed : Option (ℕ × FailedIn)) (status : Status) → name ≡ drive.file
-    → Reads most_bytes names name before after failed 1 (Err status) → RefusesDrive drive (record { names = names; before = before; after = after; failed = failed }) status
-read_refuses drive names name before after failed status is reads =
-    refuses status (one_refused names drive.file before after failed status (subst (λ (z : List ℕ). Reads most_bytes names z before after failed 1 (Err status)) is reads))
-    (subst (λ (z : List ℕ). Reads most_bytes names z before after failed 1 (Err status)) is reads)
+pub read_refuses : (drive : Drive) (feed : FeedShown) (name : List ℕ) (status : Status) → name ≡ drive.file → feed.current ≡ 1 → Reads most_bytes feed name 1 (Err status) → RefusesDrive drive feed status
+read_refuses drive feed name status is last reads =
+    let here = subst (λ (z : List ℕ). Reads most_bytes feed z 1 (Err status)) is reads in
+    refuses status (one_refused feed drive.file status last here) here
   where
-    refuses : (s : Status) → RefusesFiles (drive.file ∷ []) (record { names = names; before = before; after = after; failed = failed }) s
-        → Reads most_bytes names drive.file before after failed 1 (Err s) → RefusesDrive drive (record { names = names; before = before; after = after; failed = failed }) s
+    refuses : (s : Status) → RefusesFiles (drive.file ∷ []) feed s → Reads most_bytes feed drive.file 1 (Err s) → RefusesDrive drive feed s
     refuses Done r h = absurd h
     refuses Usage r h = absurd h
     refuses (OpenFault file) r h = r
@@ -169,11 +165,10 @@ read_refuses drive names name before after failed status is reads =
     refuses (PlanTooLarge nodes) r h = absurd h
 
 -- the text that comes of the file's script was written, whole or in part
-pub took_says : (drive : Drive) (feed : FeedShown) (out : OutShown) (text bytes : List ℕ) (status : Status) → bytes ≡ text → IsDriven drive feed.names text → Took bytes out status
+pub took_says : (drive : Drive) (feed : FeedShown) (out : OutShown) (text bytes : List ℕ) (status : Status) → bytes ≡ text → Drives drive feed text → Took bytes out status
     → DriveSays drive feed out status
-took_says drive feed out text bytes Done same is took = (text, is, subst (λ (z : List ℕ). Appends out.taken_before z out.taken_after) same took)
-took_says drive feed out text bytes (WriteFault written) same is took =
-    (took.0, text, is, subst (λ (z : List ℕ). written < length z) same took.1, subst (λ (z : List ℕ). Appends out.taken_before (take written z) out.taken_after) same took.2)
+took_says drive feed out text bytes Done same is took = (text, is, subst (λ (z : List ℕ). TookAll z out) same took)
+took_says drive feed out text bytes (WriteFault written) same is took = (text, is, subst (λ (z : List ℕ). TookFront z written out) same took)
 took_says drive feed out text bytes Usage same is took = absurd took
 took_says drive feed out text bytes (OpenFault file) same is took = absurd took
 took_says drive feed out text bytes (ReadFault file) same is took = absurd took

@@ -1,17 +1,16 @@
 -- What the file of a drive determines, and what each status says of a run of one.
-use Rattle.std.specs.Prelude.{◌≡◌, ℕ, ◌<◌, ◌≤◌, List, [], ◌∷◌, length, take, Option, Some, MatchOption, Result, Ok, Err, Vec}
+use Rattle.std.specs.Prelude.{◌≡◌, ℕ, ◌≤◌, List, [], ◌∷◌, length, Option, Some, MatchOption, Result, Ok, Err, Vec}
 use Rattle.std.specs.declared.alloc.Global.{Global}
-use Rattle.wire_ports.specs.Bytes.{Appends}
-use Rattle.wire_ports.specs.Ports.{Names, HasRisen}
+use Rattle.wire_ports.specs.Ports.{Names}
 use Rattle.seat_history.specs.declared.entry.Entry.{Entry}
 use Rattle.call_script.specs.Cut.{lines_of}
 use Rattle.call_script.specs.Script.{Good, ReadAs, bad_reading}
 use Rattle.call_script.specs.Text.{driven_text}
 use Rattle.call_script.specs.declared.bad_script.BadScript.{BadScript as ScriptFault}
 use Rattle.call_script.specs.declared.driven.Driven.{Driven}
-use Rattle.flow_tally.specs.Input.{most_bytes, FeedShown, IsBytesOf, IsFirstTooLarge, RefusesFiles}
-use Rattle.flow_tally.specs.OutShown.{OutShown, IsUntouched}
 use Rattle.call_script.specs.Run.{IsRun}
+use Rattle.flow_tally.specs.Input.{most_bytes, FeedShown, IsReadOut, StopsAt, IsBytesOf, IsFirstTooLarge, RefusesFiles}
+use Rattle.flow_tally.specs.OutShown.{OutShown, IsUntouched, TookAll, TookFront}
 use Rattle.flow_tally.specs.Words.{Drive}
 use Rattle.flow_tally.specs.declared.status.Status.{Status}
 use Rattle.flow_tally.specs.declared.status.Status.TheVariants.{Done, WriteFault, BadDatagram, InputTooLarge, BadScript, NoMemory}
@@ -45,15 +44,18 @@ GivesScriptText bytes (Err _) = ⊥
 
 -- why a drive has no text; nothing says when memory runs out
 abbrev pub RefusesDrive : Drive → FeedShown → Status → Type 0
-RefusesDrive drive feed (BadScript fault) = HasFault drive feed.names fault
+RefusesDrive drive feed (BadScript fault) = HasFault drive feed.names fault × StopsAt 1 feed
 RefusesDrive drive feed (BadDatagram file offset cause) = ⊥
 RefusesDrive drive feed status = RefusesFiles (drive.file ∷ []) feed status
 
+-- the file was read, and the text is what comes of its script
+abbrev pub Drives : Drive → FeedShown → List ℕ → Type 0
+Drives drive feed text = IsReadOut 1 feed × IsDriven drive feed.names text
+
 -- what a status says of a run of a drive
 abbrev pub DriveSays : Drive → FeedShown → OutShown → Status → Type 0
-DriveSays drive feed out Done = (text : List ℕ) × IsDriven drive feed.names text × Appends out.taken_before text out.taken_after
-DriveSays drive feed out (WriteFault written) = HasRisen out.before out.after
-    × (text : List ℕ) × IsDriven drive feed.names text × (written < length text) × Appends out.taken_before (take written text) out.taken_after
+DriveSays drive feed out Done = (text : List ℕ) × Drives drive feed text × TookAll text out
+DriveSays drive feed out (WriteFault written) = (text : List ℕ) × Drives drive feed text × TookFront text written out
 DriveSays drive feed out status = RefusesDrive drive feed status × IsUntouched out
 
 -- what the files under these names determine of a drive

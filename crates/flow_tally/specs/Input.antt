@@ -1,5 +1,5 @@
 -- The files that a tally reads, and the first of them that can't be tallied.
-use Rattle.std.specs.Prelude.{◌≡◌, ℕ, ◌+◌, ◌^◌, ◌<◌, ◌≤◌, List, length, map, take, Option, Some, None, slice_get}
+use Rattle.std.specs.Prelude.{◌≡◌, ℕ, ◌+◌, ◌^◌, ◌<◌, ◌≤◌, Bool, true, List, [], length, option_map, map, take, Option, Some, None, slice_get}
 use Rattle.std.specs.List.{AllByRecursion}
 use Rattle.wire_ports.specs.Ports.{Names, HasRisen, IsStartFailure, bytes_under}
 use Rattle.wire_ports.specs.declared.feed.FailedIn.{FailedIn}
@@ -35,12 +35,45 @@ pub record IsAt (names : Option Names) (files : List (List ℕ)) (file : ℕ) (b
   pub told : AreContents names (take (length before) files) before
   pub good : AreGood before
 
--- what a feed told of its files, and its faults from before to after
+-- what a feed told in a run: its files; its faults and its last failure before and after; the number of the
+-- file that was started last, whether it still is, and what is left of it
 pub record FeedShown : Type 0 where
   pub names : Option Names
   pub before : ℕ
   pub after : ℕ
+  pub failed_before : Option (ℕ × FailedIn)
   pub failed : Option (ℕ × FailedIn)
+  pub current : ℕ
+  pub started : Bool
+  pub left : Option (List ℕ)
+
+-- that, by what the feed tells of its old and new state
+abbrev pub feed_shown : {Feed : Type 0} → (Feed → Option Names) → (Feed → ℕ) → (Feed → Option (ℕ × FailedIn)) → (Feed → ℕ) → (Feed → Bool) → (Feed → Option (List ℕ))
+    → Feed → Feed → FeedShown
+feed_shown files faults failed current started left old new = record {
+  names = files old;
+  before = faults old;
+  after = faults new;
+  failed_before = failed old;
+  failed = failed new;
+  current = current new;
+  started = started new;
+  left = left new;
+}
+
+-- no call of the feed failed, and the file with this number was started last
+pub record StopsAt (file : ℕ) (feed : FeedShown) : Type 0 where
+  pub last : feed.current ≡ file
+  pub no_fault : feed.after ≡ feed.before
+  pub no_failure : feed.failed ≡ feed.failed_before
+
+-- no call of the feed failed; of so many files the last was started last, and nothing of it is left
+pub record IsReadOut (count : ℕ) (feed : FeedShown) : Type 0 where
+  pub last : 0 < count → feed.current ≡ count
+  pub started : 0 < count → feed.started ≡ true
+  pub none_left : 0 < count → feed.left ≡ option_map (λ _. []) feed.names
+  pub no_fault : feed.after ≡ feed.before
+  pub no_failure : feed.failed ≡ feed.failed_before
 
 -- the bytes of this file and of those before it are more than the limit, where the feed tells them
 abbrev pub IsTooLarge : Option Names → List (List ℕ) → List ℕ → Type 0
@@ -62,13 +95,13 @@ abbrev pub IsFirstBad : Option Names → List (List ℕ) → ℕ → ℕ → Mal
 IsFirstBad names files file offset cause = (before : List (List ℕ)) × (name : List ℕ) × (bytes : List ℕ) × IsAt names files file before name
     × IsBadFile names before name bytes offset cause
 
--- why the files can't be tallied; nothing says when memory runs out
+-- why the files can't be tallied, and that no later one was started; nothing says when memory runs out
 abbrev pub RefusesFiles : List (List ℕ) → FeedShown → Status → Type 0
 RefusesFiles files feed (OpenFault file) = (before : List (List ℕ)) × (name : List ℕ) × IsAt feed.names files file before name
-    × HasRisen feed.before feed.after × IsStartFailure feed.names name file feed.failed
+    × HasRisen feed.before feed.after × IsStartFailure feed.names name file feed.failed × (feed.current ≡ file)
 RefusesFiles files feed (ReadFault file) = (before : List (List ℕ)) × (name : List ℕ) × IsAt feed.names files file before name
-    × HasRisen feed.before feed.after × (feed.failed ≡ Some (file, Read))
-RefusesFiles files feed (InputTooLarge file) = IsFirstTooLarge feed.names files file
-RefusesFiles files feed (BadDatagram file offset cause) = IsFirstBad feed.names files file offset cause
+    × HasRisen feed.before feed.after × (feed.failed ≡ Some (file, Read)) × (feed.current ≡ file)
+RefusesFiles files feed (InputTooLarge file) = IsFirstTooLarge feed.names files file × StopsAt file feed
+RefusesFiles files feed (BadDatagram file offset cause) = IsFirstBad feed.names files file offset cause × StopsAt file feed
 RefusesFiles files feed NoMemory = Unit {0}
 RefusesFiles files feed _ = ⊥

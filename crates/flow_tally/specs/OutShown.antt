@@ -12,12 +12,28 @@ pub record OutShown : Type 0 where
   pub taken_before : Option (List ℕ)
   pub taken_after : Option (List ℕ)
 
--- the sink took nothing
-abbrev pub IsUntouched : OutShown → Type 0
-IsUntouched out = out.taken_after ≡ out.taken_before
+-- that, by what the sink tells of its old and new state
+abbrev pub out_shown : {Sink : Type 0} → (Sink → ℕ) → (Sink → Option (List ℕ)) → Sink → Sink → OutShown
+out_shown faults taken old new = record { before = faults old; after = faults new; taken_before = taken old; taken_after = taken new }
 
--- the sink took the text, or so many first bytes of it where its count rose
+-- the sink took nothing, and no write failed
+pub record IsUntouched (out : OutShown) : Type 0 where
+  pub nothing : out.taken_after ≡ out.taken_before
+  pub no_fault : out.after ≡ out.before
+
+-- the sink took the whole text, and no write failed
+pub record TookAll (text : List ℕ) (out : OutShown) : Type 0 where
+  pub all : Appends out.taken_before text out.taken_after
+  pub no_fault : out.after ≡ out.before
+
+-- the sink took so many first bytes of the text, and its count rose
+pub record TookFront (text : List ℕ) (written : ℕ) (out : OutShown) : Type 0 where
+  pub risen : HasRisen out.before out.after
+  pub within : written < length text
+  pub front : Appends out.taken_before (take written text) out.taken_after
+
+-- the sink took the text, or so many first bytes of it
 abbrev pub Took : List ℕ → OutShown → Status → Type 0
-Took text out Done = Appends out.taken_before text out.taken_after
-Took text out (WriteFault written) = HasRisen out.before out.after × (written < length text) × Appends out.taken_before (take written text) out.taken_after
+Took text out Done = TookAll text out
+Took text out (WriteFault written) = TookFront text written out
 Took text out _ = ⊥

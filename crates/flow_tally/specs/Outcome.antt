@@ -1,17 +1,16 @@
 -- What the words and the files determine, and what each status says of a run.
-use Rattle.std.specs.Prelude.{◌≡◌, ℕ, ◌+◌, ◌*◌, ◌^◌, ◌<◌, ◌≤◌, List, length, take, Option, Some, None, Result, Ok, Err, Vec}
+use Rattle.std.specs.Prelude.{◌≡◌, ℕ, ◌+◌, ◌*◌, ◌^◌, ◌<◌, ◌≤◌, List, length, Option, Some, None, Result, Ok, Err, Vec}
 use Rattle.std.specs.declared.alloc.Global.{Global}
-use Rattle.wire_ports.specs.Bytes.{Appends}
-use Rattle.wire_ports.specs.Ports.{Names, HasRisen}
+use Rattle.wire_ports.specs.Ports.{Names}
 use Rattle.netflow_five.specs.File.{joined, IsFile, all_records}
 use Rattle.flow_fold.specs.Flows.{Flows, HasRisingKeys, value_in}
 use Rattle.flow_fold.specs.Fold.{IsFold}
 use Rattle.flow_fold.specs.Pair.{pairs_of}
 use Rattle.flow_report.specs.Text.{report_text}
 use Rattle.flow_report.specs.declared.totals.Totals.{Totals}
-use Rattle.flow_tally.specs.Input.{AreContents, AreGood, FeedShown, IsFirstTooLarge, IsFirstBad, RefusesFiles}
-use Rattle.flow_tally.specs.DriveOutcome.{DriveSays, DeterminesDrive}
-use Rattle.flow_tally.specs.OutShown.{OutShown, IsUntouched}
+use Rattle.flow_tally.specs.Input.{AreContents, AreGood, FeedShown, IsReadOut, IsFirstTooLarge, IsFirstBad, RefusesFiles}
+use Rattle.flow_tally.specs.DriveOutcome.{DriveSays, DeterminesDrive, IsDriven}
+use Rattle.flow_tally.specs.OutShown.{OutShown, IsUntouched, TookAll, TookFront}
 use Rattle.flow_tally.specs.Words.{Tally, Command, OfTally, OfDrive}
 use Rattle.flow_tally.specs.declared.status.Status.{Status}
 use Rattle.flow_tally.specs.declared.status.Status.TheVariants.{Done, Usage, OpenFault, ReadFault, WriteFault, BadDatagram, TooManyFlows, InputTooLarge, NoMemory, PlanTooLarge}
@@ -55,16 +54,18 @@ HasTooManyFlows tally names = (contents : List (List ℕ)) × (ds : List (List �
 -- why a tally has no report; nothing says when memory runs out
 abbrev pub Refuses : Tally → FeedShown → Status → Type 0
 Refuses tally feed (PlanTooLarge nodes) = (nodes ≡ nodes_of tally) × (most_nodes < nodes)
-Refuses tally feed (TooManyFlows limit) = (nodes_of tally ≤ most_nodes) × (limit ≡ tally.flows) × HasTooManyFlows tally feed.names
+Refuses tally feed (TooManyFlows limit) = (nodes_of tally ≤ most_nodes) × (limit ≡ tally.flows) × HasTooManyFlows tally feed.names × IsReadOut (length tally.files) feed
 Refuses tally feed NoMemory = Unit {0}
 Refuses tally feed status = (nodes_of tally ≤ most_nodes) × RefusesFiles tally.files feed status
 
+-- all files were read, and the text is their report
+abbrev pub Reports : Tally → FeedShown → List ℕ → Type 0
+Reports tally feed text = (nodes_of tally ≤ most_nodes) × IsReadOut (length tally.files) feed × IsReport tally feed.names text
+
 -- what a status says of a run of a tally
 abbrev pub TallySays : Tally → FeedShown → OutShown → Status → Type 0
-TallySays tally feed out Done = (nodes_of tally ≤ most_nodes)
-    × (text : List ℕ) × IsReport tally feed.names text × Appends out.taken_before text out.taken_after
-TallySays tally feed out (WriteFault written) = (nodes_of tally ≤ most_nodes) × HasRisen out.before out.after
-    × (text : List ℕ) × IsReport tally feed.names text × (written < length text) × Appends out.taken_before (take written text) out.taken_after
+TallySays tally feed out Done = (text : List ℕ) × Reports tally feed text × TookAll text out
+TallySays tally feed out (WriteFault written) = (text : List ℕ) × Reports tally feed text × TookFront text written out
 TallySays tally feed out status = Refuses tally feed status × IsUntouched out
 
 -- what a status says of a run whose words fit no command
@@ -95,11 +96,28 @@ Determines None names _ = ⊥
 Determines (Some (OfTally tally)) names status = DeterminesTally tally names status
 Determines (Some (OfDrive drive)) names status = DeterminesDrive drive names status
 
+-- the text is the output that the words ask for, with the files under these names
+abbrev pub IsOutput : Option Command → Names → List ℕ → Type 0
+IsOutput None names text = ⊥
+IsOutput (Some (OfTally tally)) names text = IsReport tally (Some names) text
+IsOutput (Some (OfDrive drive)) names text = IsDriven drive (Some names) text
+
 -- the words ask for a tally, and the text is the report of its files under these names
 abbrev pub IsReportOf : Option Command → Names → List ℕ → Type 0
-IsReportOf None names text = ⊥
 IsReportOf (Some (OfTally tally)) names text = IsReport tally (Some names) text
-IsReportOf (Some (OfDrive drive)) names text = ⊥
+IsReportOf _ names text = ⊥
+
+-- what the sink took: the output at Done, so many first bytes of it at a fault of the output, and nothing else
+abbrev pub HasOutput : Option Command → Names → OutShown → Status → Type 0
+HasOutput asked names out Done = (text : List ℕ) × IsOutput asked names text × TookAll text out
+HasOutput asked names out (WriteFault written) = (text : List ℕ) × IsOutput asked names text × TookFront text written out
+HasOutput asked names out status = IsUntouched out
+
+-- with these words and so many nodes there is no business with files
+abbrev pub LeavesFeed : Status → Type 0
+LeavesFeed Usage = Unit {0}
+LeavesFeed (PlanTooLarge nodes) = Unit {0}
+LeavesFeed _ = ⊥
 
 -- but for a feed that failed and for want of memory, it is the status that words and files determine; where the output failed, that is Done
 abbrev pub IsDecided : Option Command → Names → Status → Type 0

@@ -2,12 +2,11 @@
 use Rattle.std.specs.Prelude.{◌≡◌, ℕ, ◌<◌, ◌≤◌, List, length, Option, Some, None, Result, Ok, Err, Vec}
 use Rattle.std.specs.declared.alloc.Global.{Global}
 use Rattle.wire_ports.specs.Ports.{Names, HasRisen, IsStartFailure, bytes_under}
-use Rattle.wire_ports.specs.declared.feed.FailedIn.{FailedIn}
 use Rattle.wire_ports.specs.declared.feed.FailedIn.TheVariants.{Read}
 use Rattle.netflow_five.specs.File.{joined, IsFile, IsBad}
 use Rattle.netflow_five.specs.declared.places.Refused.{Refused}
 use Rattle.netflow_five.specs.declared.places.Refused.TheVariants as refused
-use Rattle.flow_tally.specs.Input.{AreContents, AreGood, IsBytesOf}
+use Rattle.flow_tally.specs.Input.{AreContents, AreGood, IsBytesOf, FeedShown, IsReadOut, StopsAt}
 use Rattle.flow_tally.specs.Tallied.{HasTallied, Adds}
 use Rattle.flow_tally.specs.declared.status.Status.{Status}
 use Rattle.flow_tally.specs.declared.status.Status.TheVariants.{OpenFault, ReadFault, BadDatagram, InputTooLarge, NoMemory}
@@ -18,22 +17,22 @@ abbrev pub IsLongerFile : ℕ → Option Names → List ℕ → Type 0
 IsLongerFile most None name = Unit {0}
 IsLongerFile most (Some names) name = most < length (bytes_under names name)
 
--- what the reading of a file gives
-abbrev pub Reads : ℕ → Option Names → List ℕ → ℕ → ℕ → Option (ℕ × FailedIn) → ℕ → Result (Vec ℕ Global) Status → Type 0
-Reads most names name before after failed file (Ok bytes) = (length bytes.items ≤ most) × IsBytesOf names name bytes.items
-Reads most names name before after failed file (Err (OpenFault number)) = (number ≡ file) × HasRisen before after × IsStartFailure names name number failed
-Reads most names name before after failed file (Err (ReadFault number)) = (number ≡ file) × HasRisen before after × (failed ≡ Some (number, Read))
-Reads most names name before after failed file (Err (InputTooLarge number)) = (number ≡ file) × IsLongerFile most names name
-Reads most names name before after failed file (Err NoMemory) = Unit {0}
-Reads most names name before after failed file (Err _) = ⊥
+-- what the reading of the file with this name and number gives
+abbrev pub Reads : ℕ → FeedShown → List ℕ → ℕ → Result (Vec ℕ Global) Status → Type 0
+Reads most feed name file (Ok bytes) = (length bytes.items ≤ most) × IsBytesOf feed.names name bytes.items × IsReadOut file feed
+Reads most feed name file (Err (OpenFault number)) = (number ≡ file) × HasRisen feed.before feed.after × IsStartFailure feed.names name number feed.failed
+Reads most feed name file (Err (ReadFault number)) = (number ≡ file) × HasRisen feed.before feed.after × (feed.failed ≡ Some (number, Read))
+Reads most feed name file (Err (InputTooLarge number)) = (number ≡ file) × IsLongerFile most feed.names name × StopsAt file feed
+Reads most feed name file (Err NoMemory) = Unit {0}
+Reads most feed name file (Err _) = ⊥
 
 -- what the reading and tallying of a file gives; at Ok how many bytes it has
-abbrev pub AddsFile : ℕ → Option Names → List ℕ → ℕ → ℕ → Option (ℕ × FailedIn) → ℕ → Tallied → Tallied → Result ℕ Status → Type 0
-AddsFile most names name before after failed file old new (Ok n) = (n ≤ most) × (bytes : List ℕ) × (ds : List (List ℕ))
-    × (n ≡ length bytes) × IsBytesOf names name bytes × IsFile bytes ds × Adds ds old new
-AddsFile most names name before after failed file old new (Err (BadDatagram number offset cause)) = (number ≡ file) × (bytes : List ℕ)
-    × IsBytesOf names name bytes × (length bytes ≤ most) × IsBad bytes offset cause
-AddsFile most names name before after failed file old new (Err status) = Reads most names name before after failed file (Err status)
+abbrev pub AddsFile : ℕ → FeedShown → List ℕ → ℕ → Tallied → Tallied → Result ℕ Status → Type 0
+AddsFile most feed name file old new (Ok n) = (n ≤ most) × (bytes : List ℕ) × (ds : List (List ℕ))
+    × (n ≡ length bytes) × IsBytesOf feed.names name bytes × IsFile bytes ds × Adds ds old new × IsReadOut file feed
+AddsFile most feed name file old new (Err (BadDatagram number offset cause)) = (number ≡ file) × (bytes : List ℕ)
+    × IsBytesOf feed.names name bytes × (length bytes ≤ most) × IsBad bytes offset cause × StopsAt file feed
+AddsFile most feed name file old new (Err status) = Reads most feed name file (Err status)
 
 -- the files are good, and what was tallied is of the datagrams that they are
 pub record IsTalliedOf (contents ds : List (List ℕ)) (tallied : Tallied) : Type 0 where
@@ -42,8 +41,9 @@ pub record IsTalliedOf (contents ds : List (List ℕ)) (tallied : Tallied) : Typ
   pub tally : HasTallied ds tallied
 
 -- all files were read and tallied
-abbrev pub HasRead : Option Names → List (List ℕ) → Tallied → Type 0
-HasRead names files tallied = (contents : List (List ℕ)) × (ds : List (List ℕ)) × AreContents names files contents × IsTalliedOf contents ds tallied
+abbrev pub HasRead : FeedShown → List (List ℕ) → Tallied → Type 0
+HasRead feed files tallied = IsReadOut (length files) feed
+    × (contents : List (List ℕ)) × (ds : List (List ℕ)) × AreContents feed.names files contents × IsTalliedOf contents ds tallied
 
 -- the status of a file that was refused
 abbrev pub IsStatusOf : ℕ → Refused → Status → Type 0

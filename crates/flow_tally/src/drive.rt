@@ -1,6 +1,8 @@
-ghost use Rattle.std.specs.Prelude.{◌≡◌, ◌≤◌, List, ℕ, IfOk, MatchResult};
-ghost use Rattle.flow_tally.specs.DriveOutcome.{DriveSays, IsDriven, RefusesDrive, GivesScriptText};
-ghost use Rattle.flow_tally.specs.Input.{FeedShown};
+ghost use Rattle.std.specs.Prelude.{IfErr, MatchResult};
+ghost use Rattle.flow_tally.specs.DriveOutcome.{DriveSays, Drives, RefusesDrive, GivesScriptText};
+ghost use Rattle.flow_tally.specs.Input.{feed_shown};
+ghost use Rattle.flow_tally.specs.OutShown.{out_shown};
+ghost use Rattle.flow_tally.specs.Outcome.{LeavesFeed};
 ghost use Rattle.flow_tally.specs.Words.{drive_in};
 
 use crate::drive_words::DriveWords;
@@ -31,8 +33,9 @@ fn script_text(alloc: Global, bytes: &[u8]) -> Result<Vec<u8>, Status>
 
 /// What comes of the file's script, as text.
 fn drive_text<F: Feed>(alloc: Global, words: &DriveWords, feed: &mut F) -> Result<Vec<u8>, Status>
-    ensures text { MatchResult result (λ text. IsDriven (drive_in words.now) (F.files feed.old) text.items)
-        (RefusesDrive (drive_in words.now) (record { names = F.files feed.old; before = F.faults feed.old; after = F.faults feed.new; failed = F.failed feed.new })) }
+    ensures text { MatchResult result (λ text. Drives (drive_in words.now) (feed_shown F.files F.faults F.failed F.current F.started F.left feed.old feed.new) text.items)
+        (RefusesDrive (drive_in words.now) (feed_shown F.files F.faults F.failed F.current F.started F.left feed.old feed.new)) }
+    ensures business { IfErr result (λ status. ¬ LeavesFeed status) }
 {
     match read_file(alloc, feed, 1, words.file.as_str(), MOST_BYTES) {
         Ok(bytes) => script_text(alloc, &bytes),
@@ -47,10 +50,11 @@ pub fn drive<F: Feed, O: Sink>(
     feed: &mut F,
     out: &mut O,
 ) -> Status
-    ensures { DriveSays (drive_in words.now)
-        (record { names = F.files feed.old; before = F.faults feed.old; after = F.faults feed.new; failed = F.failed feed.new })
-        (record { before = O.faults out.old; after = O.faults out.new; taken_before = O.taken out.old; taken_after = O.taken out.new })
+    ensures says { DriveSays (drive_in words.now)
+        (feed_shown F.files F.faults F.failed F.current F.started F.left feed.old feed.new)
+        (out_shown O.faults O.taken out.old out.new)
         result }
+    ensures business { ¬ LeavesFeed result }
 {
     match drive_text(alloc, words, feed) {
         Ok(text) => write_output(out, &text),

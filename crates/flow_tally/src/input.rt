@@ -1,6 +1,6 @@
 ghost use Rattle.std.specs.Prelude.{◌≡◌, ◌+◌, ◌<◌, ◌≤◌, ◌^◌, map, IfOk, MatchResult};
 ghost use Rattle.std.specs.String.{string_bytes};
-ghost use Rattle.flow_tally.specs.Input.{FeedShown, RefusesFiles};
+ghost use Rattle.flow_tally.specs.Input.{feed_shown, RefusesFiles};
 ghost use Rattle.flow_tally.specs.Reading.{Reads, AddsFile, HasRead, IsStatusOf};
 
 use crate::status::Status;
@@ -20,7 +20,8 @@ pub(crate) fn read_file<F: Feed>(
     name: &str,
     most: usize,
 ) -> Result<Vec<u8>, Status>
-    ensures read { Reads most (F.files feed.old) name.now (F.faults feed.old) (F.faults feed.new) (F.failed feed.new) file result }
+    ensures read { Reads most (feed_shown F.files F.faults F.failed F.current F.started F.left feed.old feed.new) name.now file result }
+    ensures current { F.current feed.new ≡ file }
     ensures files { F.files feed.new ≡ F.files feed.old }
     ensures later { F.faults feed.old ≤ F.faults feed.new }
 {
@@ -60,7 +61,8 @@ fn add_file<F: Feed>(
 ) -> Result<usize, Status>
     requires records { tallied.old.records + most < 2 ^ 64 }
     requires datagrams { tallied.old.datagrams + most < 2 ^ 64 }
-    ensures file { AddsFile most (F.files feed.old) name.now (F.faults feed.old) (F.faults feed.new) (F.failed feed.new) file tallied.old tallied.new result }
+    ensures file { AddsFile most (feed_shown F.files F.faults F.failed F.current F.started F.left feed.old feed.new) name.now file tallied.old tallied.new result }
+    ensures current { F.current feed.new ≡ file }
     ensures records { IfOk result (λ n. tallied.new.records ≤ tallied.old.records + n) }
     ensures datagrams { IfOk result (λ n. tallied.new.datagrams ≤ tallied.old.datagrams + n) }
     ensures files { F.files feed.new ≡ F.files feed.old }
@@ -75,8 +77,8 @@ fn add_file<F: Feed>(
 
 /// Reads the files in order and tallies them.
 pub fn read_files<F: Feed>(alloc: Global, feed: &mut F, files: &[String]) -> Result<Tallied, Status>
-    ensures read { MatchResult result (HasRead (F.files feed.old) (map string_bytes files.now))
-        (RefusesFiles (map string_bytes files.now) (record { names = F.files feed.old; before = F.faults feed.old; after = F.faults feed.new; failed = F.failed feed.new })) }
+    ensures read { MatchResult result (HasRead (feed_shown F.files F.faults F.failed F.current F.started F.left feed.old feed.new) (map string_bytes files.now))
+        (RefusesFiles (map string_bytes files.now) (feed_shown F.files F.faults F.failed F.current F.started F.left feed.old feed.new)) }
     ensures files { F.files feed.new ≡ F.files feed.old }
     ensures later { F.faults feed.old ≤ F.faults feed.new }
 {

@@ -1,5 +1,7 @@
-ghost use Rattle.std.specs.Prelude.{◌≡◌, ◌≤◌, List, ℕ, MatchResult};
-ghost use Rattle.flow_tally.specs.Outcome.{nodes_of, most_nodes, IsReport, Refuses, TallySays, GivesText};
+ghost use Rattle.std.specs.Prelude.{◌≡◌, List, ℕ, IfErr, MatchResult};
+ghost use Rattle.flow_tally.specs.Input.{feed_shown};
+ghost use Rattle.flow_tally.specs.OutShown.{out_shown};
+ghost use Rattle.flow_tally.specs.Outcome.{nodes_of, Reports, Refuses, TallySays, GivesText, LeavesFeed};
 ghost use Rattle.flow_tally.specs.Reading.{IsTalliedOf};
 ghost use Rattle.flow_tally.specs.Words.{tally_in};
 
@@ -48,10 +50,9 @@ fn tallied_text(alloc: Global, tallied: &Tallied, limit: u32) -> Result<Vec<u8>,
 
 /// The report of the files.
 fn tally_text<F: Feed>(alloc: Global, words: &TallyWords, feed: &mut F) -> Result<Vec<u8>, Status>
-    ensures text { MatchResult result (λ text. (nodes_of (tally_in words.now) ≤ most_nodes) × IsReport (tally_in words.now) (F.files feed.old) text.items)
-        (Refuses (tally_in words.now) (record { names = F.files feed.old; before = F.faults feed.old; after = F.faults feed.new; failed = F.failed feed.new })) }
-    ensures files { F.files feed.new ≡ F.files feed.old }
-    ensures later { F.faults feed.old ≤ F.faults feed.new }
+    ensures text { MatchResult result (λ text. Reports (tally_in words.now) (feed_shown F.files F.faults F.failed F.current F.started F.left feed.old feed.new) text.items)
+        (Refuses (tally_in words.now) (feed_shown F.files F.faults F.failed F.current F.started F.left feed.old feed.new)) }
+    ensures untouched { IfErr result (λ status. LeavesFeed status → feed.new ≡ feed.old) }
 {
     let nodes = nodes(words);
     if nodes > MOST_NODES {
@@ -68,10 +69,11 @@ pub fn tally<F: Feed, O: Sink>(
     feed: &mut F,
     out: &mut O,
 ) -> Status
-    ensures { TallySays (tally_in words.now)
-        (record { names = F.files feed.old; before = F.faults feed.old; after = F.faults feed.new; failed = F.failed feed.new })
-        (record { before = O.faults out.old; after = O.faults out.new; taken_before = O.taken out.old; taken_after = O.taken out.new })
+    ensures says { TallySays (tally_in words.now)
+        (feed_shown F.files F.faults F.failed F.current F.started F.left feed.old feed.new)
+        (out_shown O.faults O.taken out.old out.new)
         result }
+    ensures untouched { LeavesFeed result → feed.new ≡ feed.old }
 {
     match tally_text(alloc, words, feed) {
         Ok(text) => write_output(out, &text),

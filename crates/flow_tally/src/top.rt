@@ -1,7 +1,9 @@
 ghost use Rattle.std.specs.Prelude.{◌≡◌, ◌⊎◌, List, ℕ, Some, map};
 ghost use Rattle.std.specs.String.{string_bytes};
 ghost use Rattle.flow_tally.specs.Message.{message_of};
-ghost use Rattle.flow_tally.specs.Outcome.{Says, Determines, IsDecided, IsReportOf};
+ghost use Rattle.flow_tally.specs.Input.{feed_shown};
+ghost use Rattle.flow_tally.specs.OutShown.{out_shown};
+ghost use Rattle.flow_tally.specs.Outcome.{Says, Determines, IsDecided, HasOutput, IsReportOf, LeavesFeed};
 ghost use Rattle.flow_tally.specs.Telling.{Tells};
 ghost use Rattle.flow_tally.specs.Words.{words_asked};
 ghost use Rattle.wire_ports.specs.Bytes.{Appends};
@@ -17,10 +19,11 @@ use wire_ports::{Feed, Sink};
 
 /// Does what the words ask for.
 fn answer<F: Feed, O: Sink>(alloc: Global, words: &[String], feed: &mut F, out: &mut O) -> Status
-    ensures { Says (words_asked (map string_bytes words.now))
-        (record { names = F.files feed.old; before = F.faults feed.old; after = F.faults feed.new; failed = F.failed feed.new })
-        (record { before = O.faults out.old; after = O.faults out.new; taken_before = O.taken out.old; taken_after = O.taken out.new })
+    ensures says { Says (words_asked (map string_bytes words.now))
+        (feed_shown F.files F.faults F.failed F.current F.started F.left feed.old feed.new)
+        (out_shown O.faults O.taken out.old out.new)
         result }
+    ensures untouched { LeavesFeed result → feed.new ≡ feed.old }
 {
     match read_words(alloc, words) {
         Asked::Tally(words) => tally(alloc, &words, feed, out),
@@ -39,15 +42,18 @@ pub fn run<F: Feed, O: Sink, E: Sink>(
     err: &mut E,
 ) -> Status
     ensures status { Says (words_asked (map string_bytes words.now))
-        (record { names = F.files feed.old; before = F.faults feed.old; after = F.faults feed.new; failed = F.failed feed.new })
-        (record { before = O.faults out.old; after = O.faults out.new; taken_before = O.taken out.old; taken_after = O.taken out.new })
+        (feed_shown F.files F.faults F.failed F.current F.started F.left feed.old feed.new)
+        (out_shown O.faults O.taken out.old out.new)
         result }
     ensures determined { (names : Names) → F.files feed.old ≡ Some names → IsDecided (words_asked (map string_bytes words.now)) names result }
     ensures complete { (names : Names) (status : Status) → F.files feed.old ≡ Some names → Determines (words_asked (map string_bytes words.now)) names status
         → ¬ HasRisen (F.faults feed.old) (F.faults feed.new) → ¬ HasRisen (O.faults out.old) (O.faults out.new)
         → (result ≡ status) ⊎ (result ≡ Status.NoMemory) }
+    ensures output { (names : Names) → F.files feed.old ≡ Some names
+        → HasOutput (words_asked (map string_bytes words.now)) names (out_shown O.faults O.taken out.old out.new) result }
     ensures report { (names : Names) (text : List ℕ) → F.files feed.old ≡ Some names → IsReportOf (words_asked (map string_bytes words.now)) names text
         → result ≡ Status.Done → Appends (O.taken out.old) text (O.taken out.new) }
+    ensures untouched { LeavesFeed result → feed.new ≡ feed.old }
     ensures message { Tells (message_of result) (E.taken err.old) (E.taken err.new) (E.faults err.old) (E.faults err.new) }
 {
     let status = answer(alloc, words, feed, out);

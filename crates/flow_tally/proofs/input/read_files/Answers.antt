@@ -1,8 +1,8 @@
 use Rattle.std.specs.Prelude.{map, slice_get, Ok, Err}
 use Rattle.std.specs.String.{string_bytes}
-use Rattle.std.proofs.Common.{◌≡◌, ℕ, List, Option, Some, refl, subst, arith, ◌∙◌}
+use Rattle.std.proofs.Common.{◌≡◌, ℕ, ◌+◌, List, Some, refl, subst, arith, ◌∙◌}
 use Rattle.std.proofs.lemmas.List.{length-map}
-use Rattle.wire_ports.specs.Ports.{Names}
+use Rattle.flow_tally.specs.Input.{FeedShown, IsReadOut, feed_shown}
 use Rattle.flow_tally.specs.Reading.{AddsFile}
 use Rattle.flow_tally.proofs.Inputs.{none_so_far, file_so_far, all_so_far, file_refused}
 use Rattle.flow_tally.proofs.Tallies.{none_records}
@@ -16,36 +16,41 @@ loop-name-init g c = record {
   records = omega (arith, c.new-tallied.ensures.records, none_records);
   datagrams = omega (arith, c.new-tallied.ensures.datagrams);
   files = refl;
-  later = omega arith;
+  out = record { last = λ none. absurd (omega arith); started = λ none. absurd (omega arith); none_left = λ none. absurd (omega arith); no_fault = refl; no_failure = refl };
 }
 
 pub loop-name-preserved : goal.loop-name-preserved
 loop-name-preserved g c =
     let F = g.F.Feed in
     let index = c.loop-name.name-index in
+    let shown = feed_shown F.files F.faults F.failed F.current F.started F.left c.args.feed.now c.add_file.new.feed in
     let there : slice_get (map string_bytes c.args.files.now) index ≡ Some (string_bytes c.name-item.result) =
     get-map string_bytes c.args.files.now index c.name-item.result c.loop-name-test.true c.name-item.is in
-    let adds = subst (λ (p : Option Names × List ℕ). AddsFile c.loop-name.left p.0 p.1 (F.faults c.loop-name.feed) (F.faults c.add_file.new.feed) (F.failed c.add_file.new.feed) c.in-Some.next c.loop-name.tallied c.add_file.new.tallied (Ok c.in-Ok.n))
-    (λ i. (c.loop-name.invariant.files i, c.as_str.ensures.value i)) c.in-Ok.ensures.file in
+    let number : c.in-Some.next ≡ index + 1 = omega (arith, c.in-Some.ensures, c.loop-name.invariant.number) in
+    let adds : AddsFile c.loop-name.left shown (string_bytes c.name-item.result) c.in-Some.next c.loop-name.tallied c.add_file.new.tallied (Ok c.in-Ok.n) =
+    subst (λ (p : FeedShown × List ℕ). AddsFile c.loop-name.left p.0 p.1 c.in-Some.next c.loop-name.tallied c.add_file.new.tallied (Ok c.in-Ok.n))
+    (λ i. (record shown { names = c.loop-name.invariant.files i; before = c.loop-name.invariant.out.no_fault i; failed_before = c.loop-name.invariant.out.no_failure i }, c.as_str.ensures.value i)) c.in-Ok.ensures.file in
     record {
-      read = file_so_far _ _ index c.loop-name.left c.in-Ok.n _ (F.faults c.loop-name.feed) (F.faults c.add_file.new.feed) (F.failed c.add_file.new.feed) c.in-Some.next c.loop-name.tallied c.add_file.new.tallied there c.loop-name.invariant.read adds;
-      number = omega (arith, c.in-Some.ensures, c.loop-name.invariant.number);
+      read = file_so_far shown _ index c.loop-name.left c.in-Ok.n _ c.in-Some.next c.loop-name.tallied c.add_file.new.tallied there c.loop-name.invariant.read adds;
+      number = number;
       records = omega (arith, c.in-Ok.ensures.records, c.loop-name.invariant.records, c.in-Ok.ensures.file.0);
       datagrams = omega (arith, c.in-Ok.ensures.datagrams, c.loop-name.invariant.datagrams, c.in-Ok.ensures.file.0);
       files = c.in-Ok.ensures.files ∙ c.loop-name.invariant.files;
-      later = omega (arith, c.in-Ok.ensures.later, c.loop-name.invariant.later);
+      out = subst (λ (n : ℕ). IsReadOut n shown) number adds.7;
     }
 
 pub returns-in-Err-clause-read : goal.returns-in-Err-clause-read
 returns-in-Err-clause-read g c =
     let F = g.F.Feed in
     let index = c.loop-name.name-index in
+    let shown = feed_shown F.files F.faults F.failed F.current F.started F.left c.args.feed.now c.add_file.new.feed in
     let there : slice_get (map string_bytes c.args.files.now) index ≡ Some (string_bytes c.name-item.result) =
     get-map string_bytes c.args.files.now index c.name-item.result c.loop-name-test.true c.name-item.is in
-    let adds = subst (λ (p : Option Names × List ℕ). AddsFile c.loop-name.left p.0 p.1 (F.faults c.loop-name.feed) (F.faults c.add_file.new.feed) (F.failed c.add_file.new.feed) c.in-Some.next c.loop-name.tallied c.add_file.new.tallied (Err c.in-Err.status))
-    (λ i. (c.loop-name.invariant.files i, c.as_str.ensures.value i)) c.in-Err.ensures.file in
-    file_refused _ _ index c.loop-name.left _ _ _ _ _ c.in-Some.next c.loop-name.tallied c.add_file.new.tallied c.in-Err.status there
-    (omega (arith, c.in-Some.ensures, c.loop-name.invariant.number)) c.loop-name.invariant.later c.in-Err.ensures.later c.loop-name.invariant.read adds
+    let adds : AddsFile c.loop-name.left shown (string_bytes c.name-item.result) c.in-Some.next c.loop-name.tallied c.add_file.new.tallied (Err c.in-Err.status) =
+    subst (λ (p : FeedShown × List ℕ). AddsFile c.loop-name.left p.0 p.1 c.in-Some.next c.loop-name.tallied c.add_file.new.tallied (Err c.in-Err.status))
+    (λ i. (record shown { names = c.loop-name.invariant.files i; before = c.loop-name.invariant.out.no_fault i; failed_before = c.loop-name.invariant.out.no_failure i }, c.as_str.ensures.value i)) c.in-Err.ensures.file in
+    file_refused shown _ index c.loop-name.left _ c.in-Some.next c.loop-name.tallied c.add_file.new.tallied c.in-Err.status there
+    (omega (arith, c.in-Some.ensures, c.loop-name.invariant.number)) c.in-Err.ensures.current c.loop-name.invariant.read adds
 
 pub returns-clause-read : goal.returns-clause-read
-returns-clause-read g c = all_so_far _ _ c.loop-name.name-index c.loop-name.left c.loop-name.tallied (omega (arith, length-map c.args.files.now string_bytes, c.loop-name-test.false)) c.loop-name.invariant.read
+returns-clause-read g c = all_so_far _ _ c.loop-name.name-index c.loop-name.left c.loop-name.tallied (omega (arith, length-map c.args.files.now string_bytes, c.loop-name-test.false, c.loop-name.auto)) c.loop-name.invariant.read c.loop-name.invariant.out

@@ -1,7 +1,7 @@
 use Rattle.std.specs.Prelude.{map}
 use Rattle.std.specs.String.{string_bytes}
 use Rattle.std.proofs.Common.{◌≡◌, ◌+◌, ◌≤◌}
-use Rattle.flow_tally.specs.Input.{most_bytes}
+use Rattle.flow_tally.specs.Input.{most_bytes, IsReadOut, feed_shown}
 use Rattle.flow_tally.proofs.Inputs.{SoFar}
 use Rattle.flow_tally.proofs.input.read_files.Given as goal
 
@@ -12,5 +12,5 @@ invariant-loop-name g l = let F = g.F.Feed in record {
   records : l.tallied.records + l.left ≤ most_bytes;
   datagrams : l.tallied.datagrams + l.left ≤ most_bytes;
   files : F.files l.feed ≡ F.files l.fn.feed;
-  later : F.faults l.fn.feed ≤ F.faults l.feed;
+  out : IsReadOut l.name-index (feed_shown F.files F.faults F.failed F.current F.started F.left l.fn.feed l.feed);
 }
