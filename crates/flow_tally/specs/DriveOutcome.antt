@@ -1,6 +1,5 @@
 -- What the file of a drive determines, and what each status says of a run of one.
-use Rattle.std.specs.Prelude.{◌≡◌, ℕ, ◌≤◌, List, [], ◌∷◌, length, Option, Some, MatchOption, Result, Ok, Err, Vec}
-use Rattle.std.specs.declared.alloc.Global.{Global}
+use Rattle.std.specs.Prelude.{◌≡◌, ℕ, ◌≤◌, List, [], ◌∷◌, length, Option, Some, MatchOption, Result, Ok, Err}
 use Rattle.wire_ports.specs.Ports.{Names}
 use Rattle.seat_history.specs.declared.entry.Entry.{Entry}
 use Rattle.call_script.specs.Cut.{lines_of}
@@ -12,6 +11,7 @@ use Rattle.call_script.specs.Run.{IsRun}
 use Rattle.flow_tally.specs.Input.{most_bytes, FeedShown, IsReadOut, StopsAt, IsBytesOf, IsFirstTooLarge, RefusesFiles}
 use Rattle.flow_tally.specs.OutShown.{OutShown, IsUntouched, TookAll, TookFront}
 use Rattle.flow_tally.specs.Words.{Drive}
+use Rattle.flow_tally.specs.declared.answer.Answer.{Answer}
 use Rattle.flow_tally.specs.declared.status.Status.{Status}
 use Rattle.flow_tally.specs.declared.status.Status.TheVariants.{Done, WriteFault, BadDatagram, InputTooLarge, BadScript, NoMemory}
 
@@ -35,9 +35,9 @@ abbrev pub HasFault : Drive → Option Names → ScriptFault → Type 0
 HasFault drive names fault = (bytes : List ℕ) × IsBytesOf names drive.file bytes × IsFaultOf bytes fault
 
 -- what a file's bytes give: what comes of their script, or why there is none
-abbrev pub GivesScriptText : List ℕ → Result (Vec ℕ Global) Status → Type 0
-GivesScriptText bytes (Ok text) = (callers : ℕ) × (entries : List Entry) × (driven : Driven)
-    × ReadAs (lines_of bytes) (Good callers entries) × IsRun entries driven × (text.items ≡ driven_text driven)
+abbrev pub GivesScriptText : List ℕ → Result Answer Status → Type 0
+GivesScriptText bytes (Ok answer) = (callers : ℕ) × (entries : List Entry) × (driven : Driven)
+    × ReadAs (lines_of bytes) (Good callers entries) × IsRun entries driven × (answer.text.items ≡ driven_text driven)
 GivesScriptText bytes (Err (BadScript fault)) = MatchOption (bad_reading fault) ⊥ (λ reading. ReadAs (lines_of bytes) reading)
 GivesScriptText bytes (Err NoMemory) = Unit {0}
 GivesScriptText bytes (Err _) = ⊥

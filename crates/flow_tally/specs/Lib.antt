@@ -4,6 +4,7 @@ pub mod Message
 pub mod Numbers
 pub mod OutShown
 pub mod Outcome
+pub mod Program
 pub mod Reading
 pub mod Status
 pub mod Tallied

@@ -1,6 +1,5 @@
 -- What the words and the files determine, and what each status says of a run.
-use Rattle.std.specs.Prelude.{◌≡◌, ℕ, ◌+◌, ◌*◌, ◌^◌, ◌<◌, ◌≤◌, List, length, Option, Some, None, Result, Ok, Err, Vec}
-use Rattle.std.specs.declared.alloc.Global.{Global}
+use Rattle.std.specs.Prelude.{◌≡◌, ℕ, ◌+◌, ◌*◌, ◌^◌, ◌<◌, ◌≤◌, List, length, Option, Some, None, Result, Ok, Err}
 use Rattle.wire_ports.specs.Ports.{Names}
 use Rattle.netflow_five.specs.File.{joined, IsFile, all_records}
 use Rattle.flow_fold.specs.Flows.{Flows, HasRisingKeys, value_in}
@@ -12,6 +11,7 @@ use Rattle.flow_tally.specs.Input.{AreContents, AreGood, FeedShown, IsReadOut, I
 use Rattle.flow_tally.specs.DriveOutcome.{DriveSays, DeterminesDrive, IsDriven}
 use Rattle.flow_tally.specs.OutShown.{OutShown, IsUntouched, TookAll, TookFront}
 use Rattle.flow_tally.specs.Words.{Tally, Command, OfTally, OfDrive}
+use Rattle.flow_tally.specs.declared.answer.Answer.{Answer}
 use Rattle.flow_tally.specs.declared.status.Status.{Status}
 use Rattle.flow_tally.specs.declared.status.Status.TheVariants.{Done, Usage, OpenFault, ReadFault, WriteFault, BadDatagram, TooManyFlows, InputTooLarge, NoMemory, PlanTooLarge}
 
@@ -34,9 +34,9 @@ pub record IsTally (contents ds : List (List ℕ)) (flows : Flows) : Type 0 wher
 abbrev pub totals_of : List (List ℕ) → Totals
 totals_of ds = record { records = length (all_records ds); datagrams = length ds }
 
--- what the text of a tally says of its files, or why there is none
-abbrev pub GivesText : List (List ℕ) → List (List ℕ) → ℕ → Result (Vec ℕ Global) Status → Type 0
-GivesText contents ds limit (Ok text) = (flows : Flows) × IsTally contents ds flows × (length flows ≤ limit) × (text.items ≡ report_text flows (totals_of ds))
+-- what the answer of a tally says of its files, or why there is none
+abbrev pub GivesText : List (List ℕ) → List (List ℕ) → ℕ → Result Answer Status → Type 0
+GivesText contents ds limit (Ok answer) = (flows : Flows) × IsTally contents ds flows × (length flows ≤ limit) × (answer.text.items ≡ report_text flows (totals_of ds))
 GivesText contents ds limit (Err (TooManyFlows most)) = (flows : Flows) × IsTally contents ds flows × (most ≡ limit) × (limit < length flows)
 GivesText contents ds limit (Err NoMemory) = Unit {0}
 GivesText contents ds limit (Err _) = ⊥

@@ -5,6 +5,7 @@ ghost use Rattle.flow_tally.specs.OutShown.{out_shown};
 ghost use Rattle.flow_tally.specs.Outcome.{LeavesFeed};
 ghost use Rattle.flow_tally.specs.Words.{drive_in};
 
+use crate::answer::{Answer, Ended};
 use crate::drive_words::DriveWords;
 use crate::input::{MOST_BYTES, read_file};
 use crate::output::write_output;
@@ -13,8 +14,8 @@ use call_script::{BadScript, read_script, run_plain, write_replies};
 use std::alloc::Global;
 use wire_ports::{Feed, Sink};
 
-/// What comes of the script that the bytes are, as text.
-fn script_text(alloc: Global, bytes: &[u8]) -> Result<Vec<u8>, Status>
+/// What comes of the script that the bytes are.
+fn answer_of(alloc: Global, bytes: &[u8]) -> Result<Answer, Status>
     ensures { GivesScriptText bytes.now result }
 {
     let script = match read_script(alloc, bytes) {
@@ -26,19 +27,19 @@ fn script_text(alloc: Global, bytes: &[u8]) -> Result<Vec<u8>, Status>
         return Err(Status::NoMemory);
     };
     match write_replies(alloc, &driven) {
-        Ok(text) => Ok(text),
+        Ok(text) => Ok(Answer { text }),
         Err(_) => Err(Status::NoMemory),
     }
 }
 
-/// What comes of the file's script, as text.
-fn drive_text<F: Feed>(alloc: Global, words: &DriveWords, feed: &mut F) -> Result<Vec<u8>, Status>
-    ensures text { MatchResult result (λ text. Drives (drive_in words.now) (feed_shown F.files F.faults F.failed F.current F.started F.left feed.old feed.new) text.items)
+/// What comes of the file's script.
+fn drive_file<F: Feed>(alloc: Global, words: &DriveWords, feed: &mut F) -> Result<Answer, Status>
+    ensures answer { MatchResult result (λ answer. Drives (drive_in words.now) (feed_shown F.files F.faults F.failed F.current F.started F.left feed.old feed.new) answer.text.items)
         (RefusesDrive (drive_in words.now) (feed_shown F.files F.faults F.failed F.current F.started F.left feed.old feed.new)) }
     ensures business { IfErr result (λ status. ¬ LeavesFeed status) }
 {
     match read_file(alloc, feed, 1, words.file.as_str(), MOST_BYTES) {
-        Ok(bytes) => script_text(alloc, &bytes),
+        Ok(bytes) => answer_of(alloc, &bytes),
         Err(status) => Err(status),
     }
 }
@@ -49,15 +50,15 @@ pub fn drive<F: Feed, O: Sink>(
     words: &DriveWords,
     feed: &mut F,
     out: &mut O,
-) -> Status
+) -> Ended
     ensures says { DriveSays (drive_in words.now)
         (feed_shown F.files F.faults F.failed F.current F.started F.left feed.old feed.new)
         (out_shown O.faults O.taken out.old out.new)
-        result }
-    ensures business { ¬ LeavesFeed result }
+        result.status }
+    ensures business { ¬ LeavesFeed result.status }
 {
-    match drive_text(alloc, words, feed) {
-        Ok(text) => write_output(out, &text),
-        Err(status) => status,
+    match drive_file(alloc, words, feed) {
+        Ok(answer) => write_output(out, &answer),
+        Err(status) => Ended { status },
     }
 }

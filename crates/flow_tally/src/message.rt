@@ -3,6 +3,7 @@ ghost use Rattle.std.specs.String.{string_bytes};
 ghost use Rattle.flow_tally.specs.Message.{message_of, cause_text, datagram_line, line_cause_text, bad_line, line_too_many, script_line};
 ghost use Rattle.flow_tally.specs.Telling.{Tells, IsToldAs, HasNumbers, line_bytes};
 
+use crate::answer::Ended;
 use crate::status::Status;
 use call_script::{BadScript, LineCause};
 use netflow_five::Malformed;
@@ -146,18 +147,20 @@ fn write_line<E: Sink>(err: &mut E, line: &str)
 /// Tells how a run ended, and returns that. Where memory runs out for the line, the run ends so;
 /// a line that is told once output has begun needs none. A fault of the sink changes nothing.
 #[tactic(auto, unfolding(crate::specs::Message::message_of))]
-pub(crate) fn tell<E: Sink>(alloc: Global, err: &mut E, status: Status) -> Status
-    ensures same { IsToldAs status result }
-    ensures line { Tells (message_of result) (E.taken err.old) (E.taken err.new) (E.faults err.old) (E.faults err.new) }
+pub(crate) fn tell<E: Sink>(alloc: Global, err: &mut E, ended: Ended) -> Ended
+    ensures same { IsToldAs ended.status result.status }
+    ensures line { Tells (message_of result.status) (E.taken err.old) (E.taken err.new) (E.faults err.old) (E.faults err.new) }
 {
-    match line_of(alloc, status) {
+    match line_of(alloc, ended.status) {
         Ok(line) => {
             write_line(err, text_of(&line));
-            status
+            ended
         }
         Err(_) => {
             write_line(err, NO_MEMORY);
-            Status::NoMemory
+            Ended {
+                status: Status::NoMemory,
+            }
         }
     }
 }

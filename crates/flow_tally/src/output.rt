@@ -1,16 +1,18 @@
 ghost use Rattle.flow_tally.specs.OutShown.{out_shown, Took};
 
+use crate::answer::{Answer, Ended};
 use crate::status::Status;
 use wire_ports::{Sink, put_all};
 
 /// Writes the whole output, and tells how that ended.
-pub(crate) fn write_output<O: Sink>(out: &mut O, text: &[u8]) -> Status
-    ensures { Took text.now (out_shown O.faults O.taken out.old out.new) result }
+pub(crate) fn write_output<O: Sink>(out: &mut O, answer: &Answer) -> Ended
+    ensures { Took answer.now.text.items (out_shown O.faults O.taken out.old out.new) result.status }
 {
-    match put_all(out, text) {
+    let status = match put_all(out, &answer.text) {
         Ok(()) => Status::Done,
         Err(failed) => Status::WriteFault {
             written: failed.written,
         },
-    }
+    };
+    Ended { status }
 }

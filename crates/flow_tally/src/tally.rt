@@ -5,6 +5,7 @@ ghost use Rattle.flow_tally.specs.Outcome.{nodes_of, Reports, Refuses, TallySays
 ghost use Rattle.flow_tally.specs.Reading.{IsTalliedOf};
 ghost use Rattle.flow_tally.specs.Words.{tally_in};
 
+use crate::answer::{Answer, Ended};
 use crate::input::read_files;
 use crate::output::write_output;
 use crate::status::Status;
@@ -28,7 +29,7 @@ fn nodes(words: &TallyWords) -> u64
 }
 
 /// The report of what was tallied, where it has no more flows than it may have.
-fn tallied_text(alloc: Global, tallied: &Tallied, limit: u32) -> Result<Vec<u8>, Status>
+fn answer_of(alloc: Global, tallied: &Tallied, limit: u32) -> Result<Answer, Status>
     ensures { (contents ds : List (List ℕ)) → IsTalliedOf contents ds tallied.now → GivesText contents ds limit result }
 {
     let flows = match flows_of(alloc, &tallied.flows) {
@@ -43,14 +44,14 @@ fn tallied_text(alloc: Global, tallied: &Tallied, limit: u32) -> Result<Vec<u8>,
         datagrams: tallied.datagrams,
     };
     match report(alloc, flows.as_slice(), &totals) {
-        Ok(text) => Ok(text),
+        Ok(text) => Ok(Answer { text }),
         Err(_) => Err(Status::NoMemory),
     }
 }
 
 /// The report of the files.
-fn tally_text<F: Feed>(alloc: Global, words: &TallyWords, feed: &mut F) -> Result<Vec<u8>, Status>
-    ensures text { MatchResult result (λ text. Reports (tally_in words.now) (feed_shown F.files F.faults F.failed F.current F.started F.left feed.old feed.new) text.items)
+fn tally_files<F: Feed>(alloc: Global, words: &TallyWords, feed: &mut F) -> Result<Answer, Status>
+    ensures answer { MatchResult result (λ answer. Reports (tally_in words.now) (feed_shown F.files F.faults F.failed F.current F.started F.left feed.old feed.new) answer.text.items)
         (Refuses (tally_in words.now) (feed_shown F.files F.faults F.failed F.current F.started F.left feed.old feed.new)) }
     ensures untouched { IfErr result (λ status. LeavesFeed status → feed.new ≡ feed.old) }
 {
@@ -59,7 +60,7 @@ fn tally_text<F: Feed>(alloc: Global, words: &TallyWords, feed: &mut F) -> Resul
         return Err(Status::PlanTooLarge { nodes });
     }
     let tallied = read_files(alloc, feed, &words.files)?;
-    tallied_text(alloc, &tallied, words.flows)
+    answer_of(alloc, &tallied, words.flows)
 }
 
 /// Tallies the files, and writes the report once it is whole.
@@ -68,15 +69,15 @@ pub fn tally<F: Feed, O: Sink>(
     words: &TallyWords,
     feed: &mut F,
     out: &mut O,
-) -> Status
+) -> Ended
     ensures says { TallySays (tally_in words.now)
         (feed_shown F.files F.faults F.failed F.current F.started F.left feed.old feed.new)
         (out_shown O.faults O.taken out.old out.new)
-        result }
-    ensures untouched { LeavesFeed result → feed.new ≡ feed.old }
+        result.status }
+    ensures untouched { LeavesFeed result.status → feed.new ≡ feed.old }
 {
-    match tally_text(alloc, words, feed) {
-        Ok(text) => write_output(out, &text),
-        Err(status) => status,
+    match tally_files(alloc, words, feed) {
+        Ok(answer) => write_output(out, &answer),
+        Err(status) => Ended { status },
     }
 }

@@ -177,8 +177,8 @@ fn row(
     let mut err = SteadySink::new(alloc);
     out.reserve(1 << 16)?;
     err.reserve(1 << 10)?;
-    let status = run(alloc, &words, &mut feed, &mut out, &mut err);
-    assert_eq!(rt; status, want.0);
+    let ended = run(alloc, &words, &mut feed, &mut out, &mut err);
+    assert_eq!(rt; ended.status, want.0);
     assert_eq!(rt; out.as_slice(), want.1.as_bytes());
     assert_eq!(rt; err.as_slice(), want.2.as_bytes());
     Ok(())
@@ -425,8 +425,8 @@ fn device(
     let mut feed = MemoryFeed::new(files, vec![in alloc; failing.feed]?, 32);
     let mut out = MemorySink::new(alloc, vec![in alloc; failing.out]?, 8, 1 << 10)?;
     let mut err = MemorySink::new(alloc, vec![in alloc; failing.err]?, 8, 1 << 10)?;
-    let status = run(alloc, &words, &mut feed, &mut out, &mut err);
-    assert_eq!(rt; status, want.0);
+    let ended = run(alloc, &words, &mut feed, &mut out, &mut err);
+    assert_eq!(rt; ended.status, want.0);
     assert_eq!(rt; out.as_slice(), want.1.as_bytes());
     assert_eq!(rt; err.as_slice(), want.2.as_bytes());
     Ok(())

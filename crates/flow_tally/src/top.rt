@@ -9,6 +9,7 @@ ghost use Rattle.flow_tally.specs.Words.{words_asked};
 ghost use Rattle.wire_ports.specs.Bytes.{Appends};
 ghost use Rattle.wire_ports.specs.Ports.{Names, HasRisen};
 
+use crate::answer::Ended;
 use crate::drive::drive;
 use crate::message::tell;
 use crate::status::Status;
@@ -18,18 +19,22 @@ use std::alloc::Global;
 use wire_ports::{Feed, Sink};
 
 /// Does what the words ask for.
-fn answer<F: Feed, O: Sink>(alloc: Global, words: &[String], feed: &mut F, out: &mut O) -> Status
+fn answer<F: Feed, O: Sink>(alloc: Global, words: &[String], feed: &mut F, out: &mut O) -> Ended
     ensures says { Says (words_asked (map string_bytes words.now))
         (feed_shown F.files F.faults F.failed F.current F.started F.left feed.old feed.new)
         (out_shown O.faults O.taken out.old out.new)
-        result }
-    ensures untouched { LeavesFeed result → feed.new ≡ feed.old }
+        result.status }
+    ensures untouched { LeavesFeed result.status → feed.new ≡ feed.old }
 {
     match read_words(alloc, words) {
         Asked::Tally(words) => tally(alloc, &words, feed, out),
         Asked::Drive(words) => drive(alloc, &words, feed, out),
-        Asked::Usage => Status::Usage,
-        Asked::NoMemory => Status::NoMemory,
+        Asked::Usage => Ended {
+            status: Status::Usage,
+        },
+        Asked::NoMemory => Ended {
+            status: Status::NoMemory,
+        },
     }
 }
 
@@ -40,22 +45,22 @@ pub fn run<F: Feed, O: Sink, E: Sink>(
     feed: &mut F,
     out: &mut O,
     err: &mut E,
-) -> Status
+) -> Ended
     ensures status { Says (words_asked (map string_bytes words.now))
         (feed_shown F.files F.faults F.failed F.current F.started F.left feed.old feed.new)
         (out_shown O.faults O.taken out.old out.new)
-        result }
-    ensures determined { (names : Names) → F.files feed.old ≡ Some names → IsDecided (words_asked (map string_bytes words.now)) names result }
+        result.status }
+    ensures determined { (names : Names) → F.files feed.old ≡ Some names → IsDecided (words_asked (map string_bytes words.now)) names result.status }
     ensures complete { (names : Names) (status : Status) → F.files feed.old ≡ Some names → Determines (words_asked (map string_bytes words.now)) names status
         → ¬ HasRisen (F.faults feed.old) (F.faults feed.new) → ¬ HasRisen (O.faults out.old) (O.faults out.new)
-        → (result ≡ status) ⊎ (result ≡ Status.NoMemory) }
+        → (result.status ≡ status) ⊎ (result.status ≡ Status.NoMemory) }
     ensures output { (names : Names) → F.files feed.old ≡ Some names
-        → HasOutput (words_asked (map string_bytes words.now)) names (out_shown O.faults O.taken out.old out.new) result }
+        → HasOutput (words_asked (map string_bytes words.now)) names (out_shown O.faults O.taken out.old out.new) result.status }
     ensures report { (names : Names) (text : List ℕ) → F.files feed.old ≡ Some names → IsReportOf (words_asked (map string_bytes words.now)) names text
-        → result ≡ Status.Done → Appends (O.taken out.old) text (O.taken out.new) }
-    ensures untouched { LeavesFeed result → feed.new ≡ feed.old }
-    ensures message { Tells (message_of result) (E.taken err.old) (E.taken err.new) (E.faults err.old) (E.faults err.new) }
+        → result.status ≡ Status.Done → Appends (O.taken out.old) text (O.taken out.new) }
+    ensures untouched { LeavesFeed result.status → feed.new ≡ feed.old }
+    ensures message { Tells (message_of result.status) (E.taken err.old) (E.taken err.new) (E.faults err.old) (E.faults err.new) }
 {
-    let status = answer(alloc, words, feed, out);
-    tell(alloc, err, status)
+    let ended = answer(alloc, words, feed, out);
+    tell(alloc, err, ended)
 }

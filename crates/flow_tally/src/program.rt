@@ -1,0 +1,97 @@
+ghost use Rattle.std.specs.Prelude.{◌≡◌, drop, map, IfOk, IsErr};
+ghost use Rattle.std.specs.IoError.{error_kind};
+ghost use Rattle.std.specs.String.{string_bytes};
+ghost use Rattle.std.specs.Vec.Iter.{into_iter_items};
+ghost use Rattle.flow_tally.specs.Input.{feed_shown};
+ghost use Rattle.flow_tally.specs.Message.{message_of};
+ghost use Rattle.flow_tally.specs.OutShown.{out_shown};
+ghost use Rattle.flow_tally.specs.Outcome.{LeavesFeed};
+ghost use Rattle.flow_tally.specs.Program.{EndsAs, IsWanting, words_given};
+ghost use Rattle.flow_tally.specs.Status.{exit_code_of};
+ghost use Rattle.flow_tally.specs.Telling.{Tells};
+
+use crate::answer::Ended;
+use crate::message::tell;
+use crate::status::Status;
+use crate::top::run;
+use std::alloc::Global;
+use std::env::Args;
+use std::io;
+use std::io::ErrorKind;
+use wire_ports::{Feed, NoMemory, Sink};
+
+/// The arguments after the first, which is the program's name.
+fn words_after_name(alloc: Global, mut args: Args) -> Result<Vec<String>, NoMemory>
+    ensures { IfOk result (λ words. words.items ≡ drop 1 (into_iter_items args)) }
+{
+    let mut words = Vec::new(alloc);
+    let _name = args.next();
+    'words: while let Some(word) = args.next() {
+        words.push(word)?;
+    }
+    Ok(words)
+}
+
+/// The words after the program's name; none, which fits no command, where one is no UTF-8.
+fn words_of(alloc: Global, args: io::Result<Args>) -> Result<Vec<String>, NoMemory>
+    ensures words { IfOk result (λ words. words.items ≡ words_given (λ given. into_iter_items given) args) }
+    ensures wanting { IsWanting (λ fault. error_kind fault ≡ ErrorKind.OutOfMemory) args → IsErr result }
+{
+    match args {
+        Ok(args) => words_after_name(alloc, args),
+        Err(error) => {
+            if error.kind() == ErrorKind::OutOfMemory {
+                return Err(NoMemory);
+            }
+            Ok(Vec::new(alloc))
+        }
+    }
+}
+
+/// Runs the program with its arguments, and tells how it ended.
+fn run_with<F: Feed, O: Sink, E: Sink>(
+    alloc: Global,
+    args: io::Result<Args>,
+    feed: &mut F,
+    out: &mut O,
+    err: &mut E,
+) -> Ended
+    ensures ended { EndsAs (map string_bytes (words_given (λ given. into_iter_items given) args))
+        (IsWanting (λ fault. error_kind fault ≡ ErrorKind.OutOfMemory) args)
+        (feed_shown F.files F.faults F.failed F.current F.started F.left feed.old feed.new)
+        (out_shown O.faults O.taken out.old out.new)
+        result.status }
+    ensures untouched { LeavesFeed result.status → feed.new ≡ feed.old }
+    ensures message { Tells (message_of result.status) (E.taken err.old) (E.taken err.new) (E.faults err.old) (E.faults err.new) }
+{
+    match words_of(alloc, args) {
+        Ok(words) => run(alloc, &words, feed, out, err),
+        Err(_) => tell(
+            alloc,
+            err,
+            Ended {
+                status: Status::NoMemory,
+            },
+        ),
+    }
+}
+
+/// Runs the program with its arguments, and gives its exit status.
+pub fn exit_code<F: Feed, O: Sink, E: Sink>(
+    alloc: Global,
+    args: io::Result<Args>,
+    feed: &mut F,
+    out: &mut O,
+    err: &mut E,
+) -> u8
+    ensures { (status : Status) × (result ≡ exit_code_of status)
+        × EndsAs (map string_bytes (words_given (λ given. into_iter_items given) args))
+        (IsWanting (λ fault. error_kind fault ≡ ErrorKind.OutOfMemory) args)
+        (feed_shown F.files F.faults F.failed F.current F.started F.left feed.old feed.new)
+        (out_shown O.faults O.taken out.old out.new)
+        status
+        × (LeavesFeed status → feed.new ≡ feed.old)
+        × Tells (message_of status) (E.taken err.old) (E.taken err.new) (E.faults err.old) (E.faults err.new) }
+{
+    run_with(alloc, args, feed, out, err).status.exit_code()
+}
