@@ -1,0 +1,183 @@
+#!/usr/bin/env python3
+"""Runs the built program from outside: exit statuses, streams and bytes.
+
+usage: checks/run.py [PROGRAM]
+
+What a run must write comes from a fold and a plain object written here, apart from the program.
+Without PROGRAM it takes crates/flow_tally/out/flow_tally, which it has `rt run` build where it is
+missing. It needs Python's own library alone, and ends with status 1 where a check fails.
+"""
+import os
+import random
+import resource
+import struct
+import subprocess
+import sys
+import tempfile
+
+sys.dont_write_bytecode = True  # the repository stays as it was
+import fold
+import plain
+
+TOP = os.path.dirname(os.path.dirname(os.path.abspath(__file__)))
+USAGE = (
+    "flow_tally: usage: tally [--workers W] [--flows F] [--buckets B] FILE... or drive [--buckets B] [--share Q] FILE"
+    " or trial [--workers W] [--flows F] [--buckets B] START N\n"
+)
+MOST_BYTES = 1 << 28
+
+
+def built_program() -> str:
+    """The program that `rt ci` or `rt run` built."""
+    folder = os.path.join(TOP, "crates", "flow_tally")
+    program = os.path.join(folder, "out", "flow_tally")
+    if not os.path.isfile(program):
+        subprocess.run(["rt", "run", "--", "tally", "data/one_record.nf5"], cwd=folder, stdout=subprocess.DEVNULL, check=True)
+    return program
+
+
+class Checks:
+    """Runs the program in a folder of its own, and counts what wasn't as it must be."""
+
+    def __init__(self, program: str, folder: str) -> None:
+        self.program = program
+        self.folder = folder
+        self.made = 0
+        self.failed = 0
+
+    def file(self, name: str, data: bytes) -> str:
+        with open(os.path.join(self.folder, name), "wb") as out:
+            out.write(data)
+        return name
+
+    def ends(self, what: str, words: list, status: int, out: bytes = b"", err: str = "", **how) -> None:
+        """The program, run with these words, ends with this status and writes this to its streams."""
+        ran = subprocess.run(
+            [self.program, *words], cwd=self.folder, stdin=subprocess.DEVNULL, timeout=120,
+            stdout=how.get("stdout", subprocess.PIPE), stderr=how.get("stderr", subprocess.PIPE), preexec_fn=how.get("before"),
+        )
+        self.is_same(what + ": status", ran.returncode, status)
+        if "stdout" not in how:
+            self.is_same(what + ": standard output", ran.stdout, out)
+        if "stderr" not in how:
+            self.is_same(what + ": standard error", ran.stderr, err.encode())
+
+    def is_same(self, what: str, found, wanted) -> None:
+        self.made += 1
+        if found != wanted:
+            self.failed += 1
+            print(f"FAILED {what}: {shown(found)}, and not {shown(wanted)}")
+
+
+def shown(value) -> str:
+    text = repr(value)
+    return text if len(text) <= 120 else f"{text[:120]}.. ({len(value)} long)"
+
+
+def closed_pipe() -> int:
+    """The writing end of a pipe that nobody reads."""
+    reader, writer = os.pipe()
+    os.close(reader)
+    return writer
+
+
+def little_memory() -> None:
+    resource.setrlimit(resource.RLIMIT_AS, (64 << 20, 64 << 20))
+
+
+def tallies(checks: Checks) -> None:
+    """Reports of files, the fold of which is made here."""
+    choose = random.Random(5)
+    flows = [fold.random_key(choose) for _ in range(5_000)]
+    files = [
+        fold.export(choose, flows[:100], 50),
+        fold.export(choose, flows, 12_000),
+        fold.export(choose, flows[4_000:], 2_000),
+    ]
+    assert len(files[1]) > 256 * 1024
+    names = [checks.file(f"flows_{i}.nf5", data) for i, data in enumerate(files)]
+    checks.ends("three files, 5,000 flows", ["tally", *names], 0, fold.report(files))
+    checks.ends("the same file twice", ["tally", names[0], names[0]], 0, fold.report([files[0], files[0]]))
+    checks.ends("options before and between files", ["tally", "--flows=5000", names[0], "--workers", "64", names[1]], 0, fold.report(files[:2]))
+    checks.ends("an empty file", ["tally", checks.file("empty", b"")], 0, fold.report([b""]))
+    checks.ends("too many flows", ["tally", "--flows", "4999", *names], 7, err="flow_tally: more than 4999 flows\n")
+
+
+def bad_words(checks: Checks, one: str) -> None:
+    """Words that fit no command, and a plan that is too large."""
+    for words in ([], ["count", one], ["tally"], ["tally", "--workers", "65", one], ["tally", "--flows", "0", one], ["tally", "--help"],
+                  ["drive", one, one], ["drive", "--share", "+1", one], ["tally", "--quick", one]):
+        checks.ends(f"usage {words}", words, 2, err=USAGE)
+    checks.ends("a word that is no UTF-8", [b"tally", one.encode(), b"\xff\xfe"], 2, err=USAGE)
+    checks.ends("a first word that is no UTF-8", [b"\xc3(", one.encode()], 2, err=USAGE)
+    plan = ["tally", "--workers", "64", "--flows", "1048576", "missing"]
+    checks.ends("too large a plan, before any file", plan, 11, err="flow_tally: plan too large: 134299712 nodes\n")
+
+
+def bad_files(checks: Checks, one: str, data: bytes) -> None:
+    """Files that can't be opened or read, are too large or no exports."""
+    checks.ends("a file that is missing", ["tally", one, "missing"], 3, err="flow_tally: file 2 cannot be opened\n")
+    checks.ends("a script that is missing", ["drive", "missing"], 3, err="flow_tally: file 1 cannot be opened\n")
+    os.mkdir(os.path.join(checks.folder, "folder"))
+    checks.ends("a folder", ["tally", one, "folder"], 4, err="flow_tally: file 2 cannot be read\n")
+    for name, bad, line in (
+        ("short_header", data + bytes(23), "offset 72: short header, 23 bytes left"),
+        ("version", data + struct.pack(">HH", 9, 1) + data[4:], "offset 72: version 9"),
+        ("count", struct.pack(">HH", 5, 31) + data[4:], "offset 0: count 31"),
+        ("short_records", data[:71], "offset 0: short records, 47 bytes left, 48 wanted"),
+    ):
+        checks.ends(f"a bad datagram, {name}", ["tally", one, checks.file(name, bad), "missing"], 6, err=f"flow_tally: file 2 {line}\n")
+    large = checks.file("large", b"")
+    os.truncate(os.path.join(checks.folder, large), MOST_BYTES - 71)
+    checks.ends("one byte too many", ["tally", one, large, "missing"], 8, err="flow_tally: input too large at file 2\n")
+    os.truncate(os.path.join(checks.folder, large), MOST_BYTES - 72)
+    checks.ends("as many bytes as may be", ["tally", one, large], 6, err="flow_tally: file 2 offset 0: version 0\n")
+    checks.ends("little memory", ["tally", large], 10, err="flow_tally: out of memory\n", before=little_memory)
+
+
+def bad_streams(checks: Checks, one: str) -> None:
+    """An output that takes nothing, and an error stream that takes nothing."""
+    line = "flow_tally: output cannot be written\n"
+    with open("/dev/full", "wb") as full:
+        checks.ends("a full device", ["tally", one], 5, err=line, stdout=full)
+        checks.ends("a full device for messages", ["tally"], 2, stderr=full)
+    pipe = closed_pipe()
+    checks.ends("a closed pipe", ["tally", one], 5, err=line, stdout=pipe)
+    checks.ends("a closed pipe for messages", ["tally"], 2, stderr=pipe)
+    os.close(pipe)
+
+
+def scripts(checks: Checks) -> None:
+    """Scripts, called here on a plain object."""
+    for name, script in (("callers", plain.random_script(7, 64, 3_000)), ("pairs", plain.ten_pairs()), ("alone", plain.random_script(8, 1, 400))):
+        checks.ends(f"a script, {name}", ["drive", checks.file(name, script)], 0, plain.text(script))
+    for name, script, line in (
+        ("words", b"callers 1\n0 load  1\n", "line 2: words"),
+        ("number", b"callers 2\n1 store 0 1,2,03\n", "line 2: number"),
+        ("range", b"callers 65\n", "line 1: range"),
+        ("held", b"callers 2\n0 hold 1\n1 look\n", "line 3: held"),
+        ("too_many", b"callers 1\n" + b"0 load 0\n" * 65_537, "line 65538: too many"),
+    ):
+        checks.ends(f"no script, {name}", ["drive", checks.file("bad_" + name, script)], 9, err=f"flow_tally: script {line}\n")
+    longest = b"callers 1\n" + b"0 load 0\n" * 65_536
+    checks.ends("the longest script", ["drive", checks.file("longest", longest)], 0, b"0\n" * 65_536)
+
+
+def main() -> None:
+    program = os.path.abspath(sys.argv[1]) if len(sys.argv) > 1 else built_program()
+    with tempfile.TemporaryDirectory() as folder:
+        checks = Checks(program, folder)
+        data = fold.datagram([fold.record(0x0A000001, 0x0A000002, 1, 12, 3400, 1000, 2000, 1234, 80, 6, 0)])
+        one = checks.file("one.nf5", data)
+        checks.ends("one record", ["tally", one], 0, b"10.0.0.1 10.0.0.2 1234 80 6 0 1 12 3400 1000 2000\nflows 1 packets 12 octets 3400 records 1 datagrams 1\n")
+        tallies(checks)
+        bad_words(checks, one)
+        bad_files(checks, one, data)
+        bad_streams(checks, one)
+        scripts(checks)
+    print(f"checks: {checks.made - checks.failed} passed, {checks.failed} failed")
+    sys.exit(1 if checks.failed else 0)
+
+
+if __name__ == "__main__":
+    main()
