@@ -4,8 +4,8 @@ use Rattle.std.specs.declared.alloc.Global.{Global}
 use Rattle.wire_ports.specs.Ports.{Names, HasRisen, IsStartFailure, bytes_under}
 use Rattle.wire_ports.specs.declared.feed.FailedIn.TheVariants.{Read}
 use Rattle.netflow_five.specs.File.{joined, IsFile, IsBad}
-use Rattle.netflow_five.specs.declared.places.Refused.{Refused}
-use Rattle.netflow_five.specs.declared.places.Refused.TheVariants as refused
+use Rattle.netflow_five.specs.declared.refused.Refused.{Refused}
+use Rattle.netflow_five.specs.declared.refused.Refused.TheVariants as refused
 use Rattle.flow_tally.specs.Input.{AreContents, AreGood, IsBytesOf, FeedShown, IsReadOut, StopsAt}
 use Rattle.flow_tally.specs.Tallied.{HasTallied, Adds}
 use Rattle.flow_tally.specs.declared.status.Status.{Status}

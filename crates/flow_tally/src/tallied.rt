@@ -2,7 +2,7 @@ ghost use Rattle.std.specs.Prelude.{◌≡◌, ◌+◌, ◌<◌, ◌≤◌, ◌^
 ghost use Rattle.netflow_five.specs.File.{IsFile, IsRefusal};
 
 use flow_fold::{Key, Value, add, key_of, value_of};
-use netflow_five::{Datagram, Refused, decode};
+use netflow_five::{Datagram, Datagrams, Refused};
 use std::alloc::Global;
 use std::collections::BTreeMap;
 use wire_ports::NoMemory;
@@ -56,16 +56,13 @@ impl Tallied {
         ensures datagrams { OnOk result (self.new.datagrams ≤ self.old.datagrams + length bytes.now) }
         ensures err { IfErr result (IsRefusal bytes.now) }
     {
-        let mut at = 0;
-        'file: while at < bytes.len() {
-            match decode(bytes, at) {
-                Ok(datagram) => {
-                    self.add_datagram(&datagram)?;
-                    at += datagram.size();
-                }
-                Err(cause) => return Err(Refused::Malformed { offset: at, cause }),
+        let mut datagrams = Datagrams::new(bytes);
+        'file: loop {
+            match datagrams.next() {
+                Ok(Some(datagram)) => self.add_datagram(&datagram)?,
+                Ok(None) => return Ok(()),
+                Err(refused) => return Err(refused),
             }
         }
-        Ok(())
     }
 }

@@ -32,13 +32,12 @@ fn nodes(words: &TallyWords) -> u64
 fn answer_of(alloc: Global, tallied: &Tallied, limit: u32) -> Result<Answer, Status>
     ensures { (contents ds : List (List ℕ)) → IsTalliedOf contents ds tallied.now → GivesText contents ds limit result }
 {
-    let flows = match flows_of(alloc, &tallied.flows) {
-        Ok(flows) => flows,
-        Err(_) => return Err(Status::NoMemory),
-    };
-    if flows.as_slice().len() > limit as usize {
+    if tallied.flows.len() > limit as usize {
         return Err(Status::TooManyFlows { limit });
     }
+    let Ok(flows) = flows_of(alloc, &tallied.flows) else {
+        return Err(Status::NoMemory);
+    };
     let totals = Totals {
         records: tallied.records,
         datagrams: tallied.datagrams,

@@ -1,19 +1,17 @@
 -- Files of datagrams: one more at the end, and where the well-formed front ends.
-use Rattle.std.proofs.Common.{◌≡◌, ℕ, zero, suc, ◌+◌, ◌*◌, ◌<◌, ◌≤◌, List, [], ◌∷◌, ◌++◌, length, take, drop, refl, sym, ap, ap₂, ◌∙◌, subst, arith, append_assoc, zero-add}
+use Rattle.std.proofs.Common.{◌≡◌, ℕ, ◌+◌, ◌*◌, ◌<◌, ◌≤◌, List, [], ◌∷◌, ◌++◌, length, take, drop, refl, sym, ap, ap₂, ◌∙◌, subst, arith, append_assoc, zero-add}
 use Rattle.std.specs.List.{AllByRecursion}
 use Rattle.std.proofs.lemmas.List.{append-nil, length-append, length-take, take-append-drop, take_at, drop_at, take_all, take-take, drop-take}
 use Rattle.netflow_five.specs.Field.{field}
-use Rattle.netflow_five.specs.Datagram.{IsDatagram, version_of, count_of}
+use Rattle.netflow_five.specs.Datagram.{IsDatagram, count_of}
 use Rattle.netflow_five.specs.Fault.{IsFault}
-use Rattle.netflow_five.specs.File.{joined, IsFile, IsWellFormed, places, IsBad}
-use Rattle.netflow_five.specs.declared.malformed.Malformed.{Malformed}
+use Rattle.netflow_five.specs.File.{joined, IsFile, IsWellFormed, places, IsBad, IsRefusal}
+use Rattle.netflow_five.specs.Next.{ReadTo}
+use Rattle.netflow_five.specs.declared.malformed.Malformed.{Malformed as Cause}
+use Rattle.netflow_five.specs.declared.refused.Refused.{Refused}
+use Rattle.netflow_five.specs.declared.refused.Refused.TheVariants.{Malformed, NoMemory}
 use Rattle.netflow_five.proofs.Front.{field_append}
 use Rattle.netflow_five.proofs.Faults.{no_fault}
-
--- the bytes up to a place are these datagrams
-pub record ReadTo (bytes : List ℕ) (at : ℕ) (ds : List (List ℕ)) : Type 0 where
-  pub file : IsFile (take at bytes) ds
-  pub within : at ≤ length bytes
 
 pub nothing_read : (bytes : List ℕ) → ReadTo bytes 0 []
 nothing_read bytes = record { file = record { each = tt; whole = refl }; within = omega arith }
@@ -68,7 +66,7 @@ same_front d e x y len eq = (
 )
 
 -- where a longer list of datagrams begins the same bytes, what follows the shorter has no fault
-goes_on : (ds es : List (List ℕ)) (x y : List ℕ) (cause : Malformed) → AllByRecursion IsDatagram ds → AllByRecursion IsDatagram es
+goes_on : (ds es : List (List ℕ)) (x y : List ℕ) (cause : Cause) → AllByRecursion IsDatagram ds → AllByRecursion IsDatagram es
     → joined ds ++ x ≡ joined es ++ y → length (joined ds) < length (joined es) → IsFault x cause → ⊥
 goes_on ds [] x y cause all alle eq lt fault = absurd (omega arith)
 goes_on [] (e ∷ es) x y cause all alle eq lt fault =
@@ -79,7 +77,7 @@ goes_on (d ∷ ds) (e ∷ es) x y cause all alle eq lt fault =
     let both = same_front d e (joined ds ++ x) (joined es ++ y) len eq' in
     goes_on ds es x y cause all.1 alle.1 both.1 (omega (arith, len, length-append d (joined ds), length-append e (joined es))) fault
 
-pub bad_here : (bytes : List ℕ) (at : ℕ) (ds : List (List ℕ)) (cause : Malformed) → ReadTo bytes at ds → at < length bytes → IsFault (drop at bytes) cause → IsBad bytes at cause
+pub bad_here : (bytes : List ℕ) (at : ℕ) (ds : List (List ℕ)) (cause : Cause) → ReadTo bytes at ds → at < length bytes → IsFault (drop at bytes) cause → IsBad bytes at cause
 bad_here bytes at ds cause read lt fault = record {
   within = lt;
   prefix = (ds, read.file);
@@ -94,7 +92,7 @@ bad_here bytes at ds cause read lt fault = record {
 }
 
 -- bytes of which a prefix is the longest that is well formed aren't well formed
-pub bad_is_none : (bytes : List ℕ) (offset : ℕ) (cause : Malformed) → IsBad bytes offset cause → IsWellFormed bytes → ⊥
+pub bad_is_none : (bytes : List ℕ) (offset : ℕ) (cause : Cause) → IsBad bytes offset cause → IsWellFormed bytes → ⊥
 bad_is_none bytes offset cause bad well =
     bad.longest (length bytes) bad.within (omega arith) (subst IsWellFormed (sym (take_all (length bytes) bytes (omega arith))) well)
 
@@ -122,3 +120,8 @@ files_joined xs ys ds es x y = record {
   each = all_append ds es x.each y.each;
   whole = ap₂ (λ (a b : List ℕ). a ++ b) x.whole y.whole ∙ sym (joined-append ds es);
 }
+
+-- bytes that are datagrams are refused for want of memory alone
+pub only_memory : (bytes : List ℕ) (refused : Refused) → IsRefusal bytes refused → IsWellFormed bytes → refused ≡ NoMemory
+only_memory bytes (Malformed offset cause) bad well = absurd (bad_is_none bytes offset cause bad well)
+only_memory bytes NoMemory bad well = refl

@@ -1,6 +1,6 @@
 -- Bytes have one fault at most, and go bad at one place.
 use Rattle.std.specs.Prelude.{◌⊎◌}
-use Rattle.std.proofs.Common.{◌≡◌, ℕ, ◌<◌, ◌≤◌, ◌*◌, ◌+◌, List, length, drop, ap, ap₂, sym, ◌∙◌, subst, inl, inr, arith}
+use Rattle.std.proofs.Common.{◌≡◌, ℕ, ◌<◌, ◌≤◌, List, length, drop, ap, ap₂, sym, ◌∙◌, subst, inl, inr, arith}
 use Rattle.std.proofs.lemmas.Bool.{cases_order}
 use Rattle.netflow_five.specs.Datagram.{version_of, count_of}
 use Rattle.netflow_five.specs.Fault.{IsFault, IsBadCount}

@@ -1,10 +1,9 @@
 -- The consecutive parts of bytes.
-use Rattle.std.proofs.Common.{◌≡◌, ℕ, zero, suc, ◌+◌, ◌*◌, ◌<◌, ◌≤◌, List, [], ◌∷◌, length, take, drop, map, Option, Some, None, refl, sym, ap, ◌∙◌, arith}
+use Rattle.std.proofs.Common.{◌≡◌, ℕ, zero, suc, ◌+◌, ◌*◌, ◌<◌, List, length, take, drop, map, Some, refl, ap, ◌∙◌, arith}
 use Rattle.std.specs.Prelude.{slice_get}
 use Rattle.std.proofs.lemmas.List.{drop-drop}
 use Rattle.netflow_five.specs.Datagram.{parts, records_of, count_of}
 use Rattle.netflow_five.specs.Record.{record_of}
-use Rattle.netflow_five.specs.declared.record.FlowRecord.{FlowRecord}
 
 part_at : (size n i : ℕ) (bytes : List ℕ) → i < n → slice_get (map record_of (parts size n bytes)) i ≡ Some (record_of (take size (drop (size * i) bytes)))
 part_at size zero i bytes lt = absurd (omega arith)

@@ -4,8 +4,8 @@ use Rattle.std.specs.List.{AllByRecursion, flat_map}
 use Rattle.netflow_five.specs.Datagram.{IsDatagram, count_of, records_of}
 use Rattle.netflow_five.specs.Fault.{IsFault}
 use Rattle.netflow_five.specs.declared.malformed.Malformed.{Malformed}
-use Rattle.netflow_five.specs.declared.places.Refused.{Refused}
-use Rattle.netflow_five.specs.declared.places.Refused.TheVariants as refused
+use Rattle.netflow_five.specs.declared.refused.Refused.{Refused}
+use Rattle.netflow_five.specs.declared.refused.Refused.TheVariants as refused
 use Rattle.netflow_five.specs.declared.record.FlowRecord.{FlowRecord}
 
 -- the strings of a list one after the other

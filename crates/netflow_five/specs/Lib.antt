@@ -4,5 +4,6 @@ pub mod Fault
 pub mod Field
 pub mod File
 pub mod Header
+pub mod Next
 pub mod Ranges
 pub mod Record

@@ -1,5 +1,5 @@
 -- The numbers of records and headers that their fields have room for.
-use Rattle.std.specs.Prelude.{ℕ, ◌^◌, ◌<◌}
+use Rattle.std.specs.Prelude.{◌^◌, ◌<◌}
 use Rattle.netflow_five.specs.declared.header.Header.{Header}
 use Rattle.netflow_five.specs.declared.record.FlowRecord.{FlowRecord}
 

@@ -1,44 +1,11 @@
 ghost use Rattle.std.specs.Prelude.{◌≡◌, ◌<◌, ◌↔◌, [], List, ℕ, Some, slice_get, length, IsTrue, IfOk, IfErr};
 ghost use Rattle.netflow_five.specs.File.{IsFile, IsWellFormed, places, IsRefusal};
-ghost use Rattle.netflow_five.specs.declared.places.Refused.TheVariants.{NoMemory};
+ghost use Rattle.netflow_five.specs.declared.refused.Refused.TheVariants.{NoMemory};
 
-use crate::datagram::decode;
-use crate::malformed::Malformed;
-use std::alloc::{AllocError, AllocFailed, Global};
+use crate::datagrams::Datagrams;
+use crate::refused::Refused;
+use std::alloc::Global;
 use std::marker::Model;
-use wire_ports::NoMemory as OutOfMemory;
-
-/// Why a file's bytes have no places.
-#[derive(Clone, Copy, Debug, PartialEq, Eq)]
-pub enum Refused {
-    /// The well-formed datagrams from the start end at this offset, and what follows is no datagram.
-    Malformed { offset: usize, cause: Malformed },
-    NoMemory,
-}
-
-impl From<AllocError> for Refused {
-    ghost from_gives = { λ _ e. e ≡ NoMemory };
-
-    fn from(_: AllocError) -> Self {
-        Refused::NoMemory
-    }
-}
-
-impl<T: Drop> From<AllocFailed<T>> for Refused {
-    ghost from_gives = { λ _ e. e ≡ NoMemory };
-
-    fn from(_: AllocFailed<T>) -> Self {
-        Refused::NoMemory
-    }
-}
-
-impl From<OutOfMemory> for Refused {
-    ghost from_gives = { λ _ e. e ≡ NoMemory };
-
-    fn from(_: OutOfMemory) -> Self {
-        Refused::NoMemory
-    }
-}
 
 /// Where each datagram of a file begins, and how many records it has.
 #[derive(Debug, Drop)]
@@ -91,15 +58,13 @@ pub fn decode_all(alloc: Global, bytes: &[u8]) -> Result<Places, Refused>
     ensures only_memory { IsWellFormed bytes.now → IfErr result (λ refused. refused ≡ NoMemory) }
 {
     let mut items = Vec::new(alloc);
-    let mut at = 0;
-    'file: while at < bytes.len() {
-        match decode(bytes, at) {
-            Ok(datagram) => {
-                items.push((at, datagram.count()))?;
-                at += datagram.size();
-            }
-            Err(cause) => return Err(Refused::Malformed { offset: at, cause }),
+    let mut datagrams = Datagrams::new(bytes);
+    'file: loop {
+        let at = datagrams.at();
+        match datagrams.next() {
+            Ok(Some(datagram)) => items.push((at, datagram.count()))?,
+            Ok(None) => return Ok(Places { items }),
+            Err(refused) => return Err(refused),
         }
     }
-    Ok(Places { items })
 }

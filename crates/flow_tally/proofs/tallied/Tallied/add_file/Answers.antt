@@ -1,18 +1,27 @@
-use Rattle.std.proofs.Common.{[], ◌∷◌, ◌++◌, arith}
-use Rattle.netflow_five.proofs.Files.{one_more, bad_here}
+use Rattle.std.specs.Prelude.{IfSome}
+use Rattle.std.proofs.Common.{◌≡◌, ◌∙◌, ℕ, ◌+◌, List, [], ◌∷◌, ◌++◌, Ok, Some, ap, arith, length, subst, sym}
+use Rattle.netflow_five.specs.Next.{ReadTo, IsNext}
 use Rattle.flow_tally.proofs.Tallies.{adds_more}
 use Rattle.flow_tally.proofs.tallied.Tallied.add_file.Goals as goal
 
 pub file-preserved : goal.file-preserved
 file-preserved c =
-    let read = c.file.invariant.read in
-    let d = c.in-Ok.datagram.bytes.now in
-    let more = one_more c.args.bytes.now c.file.at read.0 d read.1 c.in-Ok.datagram.whole c.in-Ok.ensures.place c.in-Ok.ensures.within in
+    let bytes = c.args.bytes.now in
+    let at = c.file.datagrams.at in
+    let after = c.next.new.self.at in
+    let d = c.in-Ok-Some.datagram.bytes.now in
+    let so_far = c.file.invariant.read in
+    let ds = so_far.0 in
+    let same = c.file.invariant.bytes in
+    let read : ReadTo c.file.datagrams.bytes.now at ds = subst (λ (z : List ℕ). ReadTo z at ds) (sym same) so_far.1 in
+    let next : IsNext c.file.datagrams.bytes.now at after (Ok (Some c.in-Ok-Some.datagram)) =
+    subst (λ o. IsNext c.file.datagrams.bytes.now at after (Ok o)) c.in-Ok-Some.field-0-is c.in-Ok-Some.ensures.next in
+    let more : ReadTo bytes after (ds ++ d ∷ []) = subst (λ (z : List ℕ). ReadTo z after (ds ++ d ∷ [])) same (next ds read) in
+    let moved : after ≡ at + length d = subst (λ o. IfSome o (λ x. after ≡ at + length x.bytes.now)) c.in-Ok-Some.field-0-is c.in-Ok-Some.ensures.size in
+    let added = c.in_ok-add_datagram-in-Ok-Some.ensures in
     record {
-      read = (read.0 ++ d ∷ [], rw c.size-at.ensures more, adds_more read.0 (d ∷ []) _ c.file.self _ read.2 c.in_ok-add_datagram-in-Ok.ensures.adds);
-      records = omega (arith, c.in_ok-add_datagram-in-Ok.ensures.records, c.size-at.ensures, c.file.invariant.records);
-      datagrams = omega (arith, c.in_ok-add_datagram-in-Ok.ensures.datagrams, c.size-at.ensures, c.file.invariant.datagrams, c.in-Ok.datagram.whole.size);
+      bytes = ap (λ z. z.now) c.in-Ok-Some.ensures.bytes ∙ same;
+      read = (ds ++ d ∷ [], more, adds_more ds (d ∷ []) _ c.file.self _ so_far.2 added.adds);
+      records = omega (arith, added.records, moved, c.file.invariant.records);
+      datagrams = omega (arith, added.datagrams, moved, c.file.invariant.datagrams, c.in-Ok-Some.datagram.whole.size);
     }
-
-pub returns-in-Err-clause-err : goal.returns-in-Err-clause-err
-returns-in-Err-clause-err c = bad_here _ _ _ c.in-Err.cause c.file.invariant.read.1 c.file-test.true c.in-Err.ensures.fault
