@@ -1,5 +1,6 @@
 //! The worked examples: words, files, and what a run answers, writes and tells.
 
+mod devices;
 mod scripts;
 
 use crate::status::Status;
@@ -8,7 +9,7 @@ use netflow_five::Malformed;
 use std::alloc::{AllocError, Global};
 use std::process::Abort;
 use std::test::Fail;
-use wire_ports::{MemoryFeed, MemorySink, NamedBytes, SteadyFeed, SteadySink};
+use wire_ports::{NamedBytes, SteadyFeed, SteadySink};
 
 /// One datagram with one record: 12 packets, 3400 octets, first 1000, last 2000.
 const ONE: [u8; 72] = [
@@ -58,6 +59,9 @@ enum Part {
     Swaps,
     /// 30 datagrams of 30 records: 300 sources in turn, 1 packet and 40 octets each.
     Sources,
+    /// 200 datagrams of 30 records: 3,000 sources in turn, 1 packet and 40 octets each. No read
+    /// takes so many bytes.
+    Thousands,
 }
 
 /// The one record with other numbers.
@@ -89,15 +93,15 @@ fn add_records(bytes: &mut Vec<u8>, count: u8) -> Result<(), AllocError> {
     Ok(())
 }
 
-fn add_sources(bytes: &mut Vec<u8>) -> Result<(), AllocError> {
+fn add_sources(bytes: &mut Vec<u8>, records: u32, sources: u32) -> Result<(), AllocError> {
     let header = one_but(3, 30);
     let record = one_with(1, 40, 1000, 2000);
     let (head, rest) = (&header[..24], &record[28..]);
-    for i in 0..900u32 {
+    for i in 0..records {
         if i % 30 == 0 {
             bytes.extend_from_slice(head)?;
         }
-        bytes.extend_from_slice(&(0x0a00_0000 | i % 300).to_be_bytes())?;
+        bytes.extend_from_slice(&(0x0a00_0000 | i % sources.max(1)).to_be_bytes())?;
         bytes.extend_from_slice(rest)?;
     }
     Ok(())
@@ -134,7 +138,8 @@ fn add_part(bytes: &mut Vec<u8>, part: Part) -> Result<(), AllocError> {
         Part::Real => bytes.extend_from_slice(&REAL),
         Part::Text(text) => bytes.extend_from_slice(text.as_bytes()),
         Part::Swaps => add_swaps(bytes),
-        Part::Sources => add_sources(bytes),
+        Part::Sources => add_sources(bytes, 900, 300),
+        Part::Thousands => add_sources(bytes, 6_000, 3_000),
     }
 }
 
@@ -175,7 +180,7 @@ fn row(
     let mut feed = SteadyFeed::new(files);
     let mut out = SteadySink::new(alloc);
     let mut err = SteadySink::new(alloc);
-    out.reserve(1 << 16)?;
+    out.reserve(1 << 18)?;
     err.reserve(1 << 10)?;
     let ended = run(alloc, &words, &mut feed, &mut out, &mut err);
     assert_eq!(rt; ended.status, want.0);
@@ -271,6 +276,28 @@ fn many_flows(rt: HostRuntime) -> Result<(), Fail> {
         "tally --buckets 1 --flows 300 a",
         &[Part::Sources],
         lines.as_str(),
+    )
+}
+
+#[test]
+fn three_files(rt: HostRuntime) -> Result<(), Fail> {
+    let mut lines = String::new(rt.alloc());
+    for source in 0..3_000u32 {
+        let (high, low) = (source / 256, source % 256);
+        let packets = if source < 300 { 7u32 } else { 4u32 };
+        let octets = 40 * packets;
+        writeln!(
+            lines,
+            "10.0.{high}.{low} 10.0.0.2 1234 80 6 0 1 {packets} {octets} 1000 2000"
+        )?;
+    }
+    lines.push_str("flows 3000 packets 12900 octets 516000 records 12900 datagrams 430\n")?;
+    row(
+        &rt,
+        "tally a b a",
+        &[Part::Thousands],
+        &[Part::Sources],
+        (Status::Done, lines.as_str(), ""),
     )
 }
 
@@ -395,97 +422,4 @@ fn refusals(rt: HostRuntime) -> Result<(), Fail> {
         )?;
     }
     Ok(())
-}
-
-/// Which calls of the ports fail.
-#[derive(Clone, Copy)]
-struct Failing {
-    feed: u32,
-    out: u32,
-    err: u32,
-}
-
-const NONE: Failing = Failing {
-    feed: 0,
-    out: 0,
-    err: 0,
-};
-
-/// Runs `tally NAME` over a file `a`, a feed of 32 bytes a piece and sinks of 8 bytes a piece.
-fn device(
-    rt: &(impl Abort + Alloc<A = Global>),
-    line: &str,
-    a: &[Part],
-    failing: Failing,
-    want: (Status, &str, &str),
-) -> Result<(), Fail> {
-    let alloc = rt.alloc();
-    let words = words_of(alloc, line)?;
-    let files = vec![in alloc; file(alloc, "a", a)?]?;
-    let mut feed = MemoryFeed::new(files, vec![in alloc; failing.feed]?, 32);
-    let mut out = MemorySink::new(alloc, vec![in alloc; failing.out]?, 8, 1 << 10)?;
-    let mut err = MemorySink::new(alloc, vec![in alloc; failing.err]?, 8, 1 << 10)?;
-    let ended = run(alloc, &words, &mut feed, &mut out, &mut err);
-    assert_eq!(rt; ended.status, want.0);
-    assert_eq!(rt; out.as_slice(), want.1.as_bytes());
-    assert_eq!(rt; err.as_slice(), want.2.as_bytes());
-    Ok(())
-}
-
-#[test]
-fn devices(rt: HostRuntime) -> Result<(), Fail> {
-    let report = "10.0.0.1 10.0.0.2 1234 80 6 0 1 12 3400 1000 2000\n\
-                  flows 1 packets 12 octets 3400 records 1 datagrams 1\n";
-    device(
-        &rt,
-        "tally a",
-        &[Part::One],
-        NONE,
-        (Status::Done, report, ""),
-    )?;
-    device(
-        &rt,
-        "tally a",
-        &[Part::One],
-        Failing { out: 2, ..NONE },
-        (
-            Status::WriteFault { written: 8 },
-            "10.0.0.1",
-            "flow_tally: output cannot be written\n",
-        ),
-    )?;
-    device(
-        &rt,
-        "tally a",
-        &[Part::One],
-        Failing { feed: 4, ..NONE },
-        (
-            Status::ReadFault { file: 1 },
-            "",
-            "flow_tally: file 1 cannot be read\n",
-        ),
-    )?;
-    device(
-        &rt,
-        "tally b",
-        &[Part::One],
-        NONE,
-        (
-            Status::OpenFault { file: 1 },
-            "",
-            "flow_tally: file 1 cannot be opened\n",
-        ),
-    )?;
-    let status = Status::BadDatagram {
-        file: 1,
-        offset: 0,
-        cause: Malformed::Count { found: 31 },
-    };
-    device(
-        &rt,
-        "tally a",
-        &[Part::Records(31)],
-        Failing { err: 1, ..NONE },
-        (status, "", ""),
-    )
 }

@@ -30,6 +30,21 @@ fn scripts(rt: HostRuntime) -> Result<(), Fail> {
 }
 
 #[test]
+fn ten_pairs(rt: HostRuntime) -> Result<(), Fail> {
+    done(
+        &rt,
+        "drive a",
+        &[Part::Text(
+            "callers 64\n63 insert 9 1\n0 insert 8,1 2\n1 insert 8 3\n2 insert 7 4\n3 insert 0,6 5\n\
+             4 insert 5 6\n5 insert 0,4 7\n6 insert 3 8\n7 insert 0 9\n8 insert 18446744073709551615,0 10\n",
+        )],
+        "done\ndone\ndone\ndone\ndone\ndone\ndone\ndone\ndone\ndone\n\
+         record 0 9\nrecord 0,4 7\nrecord 0,6 5\nrecord 3 8\nrecord 5 6\nrecord 7 4\nrecord 8 3\n\
+         record 8,1 2\nrecord 9 1\nrecord 18446744073709551615 10\n",
+    )
+}
+
+#[test]
 fn many_swaps(rt: HostRuntime) -> Result<(), Fail> {
     let mut lines = String::new(rt.alloc());
     for i in 0..800u32 {
