@@ -284,8 +284,7 @@ fn three_files(rt: HostRuntime) -> Result<(), Fail> {
     let mut lines = String::new(rt.alloc());
     for source in 0..3_000u32 {
         let (high, low) = (source / 256, source % 256);
-        let packets = if source < 300 { 7u32 } else { 4u32 };
-        let octets = 40 * packets;
+        let (packets, octets) = if source < 300 { (7, 280) } else { (4, 160) };
         writeln!(
             lines,
             "10.0.{high}.{low} 10.0.0.2 1234 80 6 0 1 {packets} {octets} 1000 2000"
