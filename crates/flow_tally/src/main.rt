@@ -4,6 +4,7 @@
 mod drive;
 mod drive_words;
 mod input;
+mod laws;
 mod message;
 mod numbers;
 mod output;
