@@ -1,7 +1,6 @@
 -- Each script has a run.
-use Rattle.std.specs.Prelude.{⊤}
-use Rattle.std.specs.List.{AllByRecursion, AllZip, range_with_len}
-use Rattle.std.proofs.Common.{All, ◌≡◌, ℕ, ◌-◌, ◌^◌, ◌<◌, List, [], ◌∷◌, ◌++◌, length, replicate, refl, subst, sym, arith}
+use Rattle.std.specs.List.{AllByRecursion, AllZip}
+use Rattle.std.proofs.Common.{All, ℕ, ◌-◌, ◌^◌, ◌<◌, List, [], ◌∷◌, ◌++◌, length, replicate, refl, arith}
 use Rattle.std.proofs.lemmas.List.Elements.{All-append, All-from_recursion, All-head, All-replicate, All-same, All-tail}
 use Rattle.seat_history.proofs.SetPairs.{AddsInRange, some_pairs}
 use Rattle.seat_history.specs.History.{object_from, replies_from}
@@ -16,7 +15,7 @@ use Rattle.call_script.specs.Cut.{parts_at, words_of}
 use Rattle.call_script.specs.Line.{SpellsEntry, SpellsWords}
 use Rattle.call_script.specs.Number.{IsNumber, IsTuple}
 use Rattle.call_script.specs.Run.{IsRun, registers_in}
-use Rattle.call_script.specs.Spelling.{IsField, IsKey, SpellsCall, UpTo, fields_of, key_field}
+use Rattle.call_script.specs.Spelling.{IsField, IsKey, UpTo, fields_of, key_field}
 use Rattle.call_script.specs.declared.driven.Driven.{Driven}
 use Rattle.call_script.proofs.Orders.{run_in_script_order}
 

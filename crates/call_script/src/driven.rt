@@ -1,5 +1,4 @@
-use crate::rec_list::RecList;
-use crate::reply_list::ReplyList;
+use crate::lists::{RecList, ReplyList};
 use seat_history::PairList;
 
 /// What comes of a script.

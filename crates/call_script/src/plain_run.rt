@@ -6,8 +6,7 @@ ghost use Rattle.seat_history.specs.Object.{blank_object};
 ghost use Rattle.seat_history.specs.Plain.{object_of, register_count};
 
 use crate::driven::Driven;
-use crate::rec_list::RecList;
-use crate::reply_list::ReplyList;
+use crate::lists::{RecList, ReplyList};
 use crate::script::{REGISTERS, Script};
 use seat_history::{CALLERS, Entry, Plain, Rec, Reply};
 use std::alloc::Global;

@@ -1,4 +1,4 @@
-use crate::line_list::LineList;
+use crate::lists::LineList;
 
 /// How many registers the calls of a script may name.
 pub const REGISTERS: u32 = 16;

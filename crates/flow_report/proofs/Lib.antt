@@ -5,4 +5,5 @@ pub mod LineFeeds
 pub mod Parts
 pub mod Reports
 pub mod Rising
+pub mod Rooms
 pub mod Spellings

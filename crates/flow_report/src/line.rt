@@ -1,5 +1,5 @@
 // Lines of the report and their parts, each put at the end of one text.
-ghost use Rattle.std.specs.Prelude.{◌≡◌, [], ◌∷◌, ◌++◌, OnOk};
+ghost use Rattle.std.specs.Prelude.{◌≡◌, ◌≤◌, [], ◌∷◌, ◌++◌, length, OnOk};
 ghost use Rattle.flow_report.specs.Ranges.{IsKeyInRange, IsValueInRange, IsFlowInRange, AreTotalsInRange};
 ghost use Rattle.flow_report.specs.Text.{space, number_then, address_text, key_text, value_text, flow_line, named, named_then, sums_text, totals_text, last_line};
 
@@ -13,15 +13,17 @@ use std::alloc::AllocError;
 const ADDRESS_ROOM: usize = 4 * 3 + 3;
 
 /// Two addresses, two ports, protocol and type of service, the interface; seven spaces.
-const KEY_ROOM: usize = 2 * (ADDRESS_ROOM + 5 + 3) + 5 + 7;
+pub(crate) const KEY_ROOM: usize = 2 * (ADDRESS_ROOM + 5 + 3) + 5 + 7;
 
 /// Five words, the number of flows, two sums of 128 bits, two totals; nine spaces and the line feed.
 pub(crate) const LAST_LINE_ROOM: usize = (5 + 7 + 6 + 7 + 9) + 20 + 2 * 39 + 2 * 20 + 10;
 
-/// The bytes that a flow's line has at most.
-pub(crate) fn flow_line_room(value: &Value) -> usize {
-    KEY_ROOM
-        + decimal_len(value.packets)
+/// How many bytes the words of a value have, and the line's end.
+pub(crate) fn value_len(value: Value) -> usize
+    ensures length { result ≡ length (value_text value) }
+    ensures short { result ≤ 84 }
+{
+    decimal_len(value.packets)
         + decimal_len(value.octets)
         + decimal_len(u64::from(value.first))
         + decimal_len(u64::from(value.last))

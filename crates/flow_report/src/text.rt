@@ -6,7 +6,7 @@ ghost use Rattle.flow_report.specs.ReadBack.{IsReport};
 ghost use Rattle.flow_report.specs.Sums.{packets_of, octets_of};
 ghost use Rattle.flow_report.specs.Text.{flow_line, report_text};
 
-use crate::line::{LAST_LINE_ROOM, add_flow, add_last, flow_line_room};
+use crate::line::{KEY_ROOM, LAST_LINE_ROOM, add_flow, add_last, value_len};
 use crate::sums::Sums;
 use crate::totals::Totals;
 use decimal_text::TextWriter;
@@ -32,8 +32,8 @@ pub fn report(alloc: Global, flows: &[(Key, Value)], totals: &Totals) -> Result<
 /// The bytes that the report has at most.
 fn room_for(flows: &[(Key, Value)]) -> usize {
     let mut room = LAST_LINE_ROOM;
-    for (_, value) in flows {
-        room = room.saturating_add(flow_line_room(value));
+    for flow in flows {
+        room = room.saturating_add(KEY_ROOM + value_len(flow.1));
     }
     room
 }

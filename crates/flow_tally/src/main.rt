@@ -5,6 +5,7 @@ mod answer;
 mod drive;
 mod drive_words;
 mod input;
+mod laws;
 mod message;
 mod numbers;
 mod output;

@@ -5,13 +5,13 @@ use Rattle.std.specs.Map.{keys_of}
 use Rattle.std.specs.Ordering.{nat_cmp}
 use Rattle.std.specs.Prelude.{⊤}
 use Rattle.std.specs.declared.cmp.Ordering.TheVariants.{Less}
-use Rattle.std.proofs.Common.{All, ◌≡◌, ◌∙◌, ℕ, ◌+◌, ◌*◌, ◌^◌, ◌<◌, ◌≤◌, Bool, true, false, cond, eqb, eq-eqb, ne_eqb, Option, Some, None, List, [], ◌∷◌, map, ap, ap₂, refl, sym, arith, inl, inr}
+use Rattle.std.proofs.Common.{All, ◌≡◌, ◌∙◌, ℕ, ◌^◌, ◌<◌, cond, eqb, eq-eqb, ne_eqb, Option, Some, None, List, [], ◌∷◌, map, ap, ap₂, refl, sym, arith, inl, inr}
 use Rattle.std.proofs.lemmas.Bool.{cases_Bool, cases_lt, eqb-true}
 use Rattle.std.proofs.lemmas.Bool.Decides.{nat_tests}
 use Rattle.std.proofs.lemmas.List.Elements.{All-head, All-tail}
 use Rattle.std.proofs.lemmas.Map.Keys.{sorted_from_strictly_increasing, sorted_head, sorted_tail}
 use Rattle.seat_history.specs.Key.{key_number}
-use Rattle.seat_history.specs.Pairs.{ArePairsOf, HasRisingKeys, IsPairInRange, Pairs, value_in}
+use Rattle.seat_history.specs.Pairs.{ArePairsOf, IsPairInRange, Pairs, value_in}
 use Rattle.seat_history.specs.declared.key.KeyWords.{KeyWords}
 
 -- each key's number is above n

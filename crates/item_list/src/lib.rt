@@ -1,32 +1,36 @@
+//! Items in a row, which contracts see as a list.
+#![tactic(auto)]
+
 ghost use Rattle.std.specs.Prelude.{◌≡◌};
 
-use seat_history::Entry;
+#[cfg(test)]
+mod tests;
+
 use std::marker::Model;
 
-/// The lines of a script, in a row.
+/// Items in a row.
 #[derive(Debug, Drop)]
-pub struct LineList {
-    items: Vec<Entry>,
+pub struct ItemList<T> {
+    items: Vec<T>,
 }
 
-impl Model for LineList {
+impl<T> Model for ItemList<T> {
     ghost use Rattle.std.specs.Prelude.{List};
-    ghost use Rattle.seat_history.specs.declared.entry.Entry.{Entry};
 
-    ghost Value = { List Entry };
+    ghost Value = { List T };
 
     ghost view = { λ list. list.items.items };
 }
 
-impl LineList {
+impl<T> ItemList<T> {
     /// The list of these items.
-    pub fn of_vec(items: Vec<Entry>) -> Self
+    pub fn of_vec(items: Vec<T>) -> Self
         ensures { result ≡ items.items }
     {
-        LineList { items }
+        ItemList { items }
     }
 
-    pub fn as_slice(&self) -> &[Entry]
+    pub fn as_slice(&self) -> &[T]
         ensures { result.now ≡ self.now }
     {
         self.items.as_slice()
