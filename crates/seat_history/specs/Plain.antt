@@ -5,6 +5,7 @@ use Rattle.std.specs.BTreeMap.{BTreeMap}
 use Rattle.std.specs.Ordering.{nat_cmp}
 use Rattle.seat_history.specs.Contents.{zeros}
 use Rattle.seat_history.specs.Object.{Object}
+use Rattle.seat_history.specs.declared.pair_map.PairMap.{PairMap}
 use Rattle.seat_history.specs.declared.plain.Plain.{Plain}
 
 -- how many registers it has
@@ -18,6 +19,10 @@ registers_of registers reg = slice_index_or registers reg zeros
 -- the value under each number
 abbrev pub values_of : BTreeMap ℕ (List ℕ) → ℕ → Option (List ℕ)
 values_of map number = tree.get nat_cmp map number
+
+-- the value under each number in a map that stands alone
+abbrev pub found_in : PairMap → ℕ → Option (List ℕ)
+found_in m = values_of m.map
 
 -- the record that each caller holds
 abbrev pub held_of : List (Option (List ℕ)) → ℕ → Option (List ℕ)
