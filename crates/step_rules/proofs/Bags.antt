@@ -1,15 +1,13 @@
 -- Lists of nodes in which the order says nothing: how often a node stands in one.
-use Rattle.std.proofs.Common.{◌≡◌, ◌≢◌, ℕ, ◌+◌, ◌-◌, ◌<◌, ◌≤◌, suc, zero, true, false, ◌||◌, List, [], ◌∷◌, ◌++◌, length, take, eqb, cond, eq-eqb, ne_eqb, get_or, set, refl, sym, ap, ◌∙◌, subst, arith, ⊎_elim, length-take, length-set}
+use Rattle.std.proofs.Common.{◌≡◌, ◌≢◌, ℕ, ◌+◌, ◌-◌, ◌<◌, ◌≤◌, suc, zero, true, false, ◌||◌, List, [], ◌∷◌, ◌++◌}
+use Rattle.std.proofs.Common.{length, take, eqb, cond, eq-eqb, ne_eqb, get_or, set, refl, sym, ap, ◌∙◌, subst, arith, ⊎_elim, length-take, length-set}
 use Rattle.std.proofs.lemmas.Bool.{eqb-true, cases_Bool, cases_eq, or_cases, or_parts, false≢true}
 use Rattle.std.proofs.lemmas.List.{take_more}
 use Rattle.std.proofs.lemmas.List.Sums.{sum_by-cons, sum_by-swap_remove}
 use Rattle.std.specs.List.{list_any, sum_by, swap_remove}
-use Rattle.step_rules.proofs.Owns.{without_else, without_here}
 use Rattle.step_rules.proofs.Sets.{has-append}
 use Rattle.step_rules.specs.Bags.{IsWithout, times}
-use Rattle.step_rules.specs.Views.{without}
-use Rattle.step_rules.specs.World.{Once, has, nodes_of}
-use Rattle.step_rules.specs.declared.view.Held.{Held}
+use Rattle.step_rules.specs.World.{Once, has}
 
 -- 1 where they are one number
 abbrev pub one : ℕ → ℕ → ℕ
@@ -79,17 +77,3 @@ has_shorter n xs i d h ne inside = ⊎_elim (λ e. e) (λ e. absurd (ne (one_the
 pub has_some : (n : ℕ) (xs : List ℕ) (i : ℕ) → has (take i xs) n ≡ true → 0 < i
 has_some n xs zero h = absurd (false≢true h)
 has_some n xs (suc i) h = omega arith
-
-without_same : (n : ℕ) (own : List Held) → has (nodes_of own) n ≡ false → without n own ≡ own
-without_same n [] none = refl
-without_same n (h ∷ r) none = let q = or_parts (eqb h.node n) (has (nodes_of r) n) none in
-    without_else n h r (λ e. false≢true (sym q.0 ∙ eq-eqb h.node n e)) ∙ ap (λ l. h ∷ l) (without_same n r q.1)
-
--- own nodes with one of them gone
-pub times-without : (m n : ℕ) (own : List Held) → Once (nodes_of own) → has (nodes_of own) n ≡ true → times m (nodes_of own) ≡ times m (nodes_of (without n own)) + one m n
-times-without m n [] once there = absurd (false≢true there)
-times-without m n (h ∷ r) once there = ⊎_elim
-    (λ e. let l = ap (λ k. times m (nodes_of k)) (without_here n h r e ∙ without_same n r (ap (has (nodes_of r)) (sym e) ∙ once.0)) in let o : one m h.node ≡ one m n = ap (one m) e in omega arith)
-    (λ e. let l = ap (λ k. times m (nodes_of k)) (without_else n h r e) in
-    let i = times-without m n r once.1 (⊎_elim (λ t. absurd (e (eqb-true h.node n t))) (λ t. t) (or_cases (eqb h.node n) (has (nodes_of r) n) there)) in omega arith)
-    (cases_eq h.node n)

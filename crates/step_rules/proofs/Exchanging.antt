@@ -1,59 +1,31 @@
 -- What an exchange of a backup leaves of the world: to other seats, to its own seat's nodes, and of the cells.
-use Rattle.std.proofs.Common.{◌≡◌, ◌≢◌, ℕ, ◌+◌, ◌/◌, ◌<◌, true, false, List, ◌++◌, length, drop, get_or, sym, ap, ◌∙◌, subst, arith, ◌⊎◌, ⊎_elim}
+use Rattle.std.proofs.Common.{◌≡◌, ◌≢◌, ℕ, ◌/◌, ◌<◌, true, false, List, ◌++◌, drop, sym, ap, ◌∙◌, subst, arith, ◌⊎◌, ⊎_elim}
 use Rattle.std.proofs.lemmas.Bool.{cases_eq, false_from_ne_true}
 use mathlib.Core.Option.{some}
 use lib.ListN.{get_elem?}
 use Rattle.atomic_table.proofs.Lists.{at_longer}
-use Rattle.seat_history.specs.Contents.{Contents}
-use Rattle.seat_history.specs.History.{state_at}
 use Rattle.seat_history.specs.declared.entry.Entry.{Entry}
-use Rattle.step_rules.specs.Cells.{CellsAgree, IsCell, register_chain}
-use Rattle.step_rules.specs.Claims.{OWN, ClaimsSound, Guards, On, SeatClaims, Tells}
+use Rattle.step_rules.specs.Cells.{CellsAgree, IsCell}
+use Rattle.step_rules.specs.Claims.{ClaimsSound, SeatClaims}
 use Rattle.step_rules.specs.History.{NoneOn}
 use Rattle.step_rules.specs.Kinds.Exchange.{Exchanges}
 use Rattle.step_rules.specs.Layout.{claim_at, nodes}
 use Rattle.step_rules.specs.Nodes.{IsNode, SeatNodes}
-use Rattle.step_rules.specs.Scans.{SeatScan}
+use Rattle.step_rules.specs.Records.{IsCounted, records_at, records_of}
 use Rattle.step_rules.specs.Seats.{Leaves, SeatOk}
-use Rattle.step_rules.specs.Views.{number, silent}
 use Rattle.step_rules.specs.World.{World, Own, Live, Chained, Once, has, link, nodes_of}
-use Rattle.step_rules.specs.declared.layout.TheConstants.{CLAIMS}
 use Rattle.step_rules.specs.declared.plan.Plan.{Plan}
 use Rattle.step_rules.specs.declared.view.Claim.{Claim}
 use Rattle.step_rules.specs.declared.view.Held.{Held}
-use Rattle.step_rules.specs.declared.view.Scan.{Scan}
 use Rattle.step_rules.specs.declared.view.View.{View}
-use Rattle.step_rules.proofs.Advance.{drop_more, none_on-append}
-use Rattle.step_rules.proofs.Chains.{link-append, head_link, head_has, chained-append, chained_parts, chained_class, chained_move, chained_apart}
-use Rattle.step_rules.proofs.Claimed.{claims_sound_more, stood_on}
-use Rattle.step_rules.proofs.Sets.{at_has, any_number}
-use Rattle.step_rules.proofs.Places.{at_append, at_behind, at_there}
+use Rattle.step_rules.proofs.Advance.{claimed_free, drop_more, none_on-append, tells_else}
+use Rattle.step_rules.proofs.Chains.{cell_stays, link-append, head_link, head_has, chained-append, chained_parts, chained_class, chained_move, chained_apart}
+use Rattle.step_rules.proofs.Claimed.{claims_sound_more}
+use Rattle.step_rules.proofs.RecordsAt.{same_records}
+use Rattle.step_rules.proofs.Sets.{at_has}
+use Rattle.step_rules.proofs.Places.{at_append, at_behind}
 
--- a claim that tells of a record isn't Own
-tells_else : (c : ℕ) → Tells c → c ≢ OWN
-tells_else c tells e = ⊎_elim (λ q. absurd (omega arith)) (λ q. absurd (omega arith)) tells
-
-pub tells_inside : (c : ℕ) → Tells c → c < CLAIMS
-tells_inside c tells = ⊎_elim (λ q. omega arith) (λ q. omega arith) tells
-
--- a claim that stands in a word of the seat's is one of those of its least number
-pub standing_there : (p : Plan) (W : World) (s : ℕ) (numbers : List ℕ) (least : ℕ) (seen : List Entry) (claims : List Claim) → SeatClaims p W s numbers least seen claims
-    → (y c n : ℕ) → has numbers y ≡ true → c < CLAIMS → W.guard (claim_at y c) ≡ n + 1 → (x : Claim) × (get_elem? claims c ≡ some x) × On x n
-standing_there p W s numbers least seen claims o y c n h lt e =
-    let four = o.sound.four in
-    let z = get_or claims c (silent 0) in
-    let at : get_elem? claims c ≡ some z = at_there claims c (silent 0) (omega arith) in
-    let is : y ≡ least = ⊎_elim (λ q. q) (λ ne. let g = (o.others y c h ne lt).1 in absurd (omega arith)) (cases_eq y least) in
-    (z, at, stood_on z n (sym (o.guard c z (any_number numbers y h) at) ∙ (ap (λ i. W.guard (claim_at i c)) (sym is) ∙ e)))
-
--- a node on which a claim on Back or Hold stands is no seat's own
-pub claimed_free : (p : Plan) (W : World) (s : ℕ) (numbers : List ℕ) (least : ℕ) (seen : List Entry) (claims : List Claim) → SeatClaims p W s numbers least seen claims
-    → (y c n t : ℕ) → has numbers y ≡ true → Tells c → W.guard (claim_at y c) ≡ n + 1 → W.class n ≢ Own t
-claimed_free p W s numbers least seen claims o y c n t h tells e own =
-    let r = standing_there p W s numbers least seen claims o y c n h (tells_inside c tells) e in
-    tells_else c tells (o.kept c n t r.0 r.1 r.2 own).0
-
-module _ {p : Plan} {a k : ℕ} {dropped kept fresh : List Held} {more : List Entry} {W W' : World} (x : Exchanges p a k dropped kept fresh more W W') {contents : Contents} (cell : IsCell p W contents k) where
+module _ {p : Plan} {a k : ℕ} {dropped kept fresh : List Held} {more : List Entry} {W W' : World} (x : Exchanges p a k dropped kept fresh more W W') (cell : IsCell p W k) where
   chain_before : Chained W (Live k) (dropped ++ kept) 0
   chain_before = subst (λ l. Chained W (Live k) l 0) x.before cell.chained
 
@@ -106,25 +78,21 @@ module _ {p : Plan} {a k : ℕ} {dropped kept fresh : List Held} {more : List En
     quiet = λ w m h e. sym (x.guard w) ∙ e;
     image = λ y c m h lt e. x.node m;
     taken = λ y c m t h lt e own. exchange_taken m t own;
-    same = λ j none. (x.others j (λ e. x.here (subst (λ i. NoneOn p i more) e none))).0;
+    same = λ j none. ap (λ b. b / 2) (x.others j (λ e. x.here (subst (λ i. NoneOn p i more) e none))).0;
+    falls = λ j none. let e = (x.others j (λ e. x.here (subst (λ i. NoneOn p i more) e none))).0 in omega arith;
+    chain = λ j none. (x.others j (λ e. x.here (subst (λ i. NoneOn p i more) e none))).1;
     fresh = λ y c m j h tells e names. ⊎_elim
-        (λ q. absurd (claimed_free p W s u.numbers (number u) u.seen u.claims ok.claims y c m a h tells e (sym (ap W.class names) ∙ (ap (λ i. W.class (W'.backup i / 2)) q ∙ exchange_head))))
-        (λ q. ((x.others j q).0, x.there j q))
+        (λ q. absurd (claimed_free ok y c m a h tells e (sym (ap W.class names) ∙ (ap (λ i. W.class (W'.backup i / 2)) q ∙ exchange_head))))
+        (λ q. x.there j q)
         (cases_eq j k);
   }
 
-  -- the words are right for the claims that stand
-  pub exchange_guards : Guards p W → Guards p W'
-  exchange_guards g = record {
-    word = λ w m e. x.word w ∙ g.word w m (sym (x.guard w) ∙ e);
-    within = λ w m e. g.within w m (sym (x.guard w) ∙ e);
-  }
-
   -- the seat's own claims: where one tells of the cell's record, the node that the backup names now is another
-  pub exchange_claims : (numbers : List ℕ) (least : ℕ) (seen rest : List Entry) (claims : List Claim) → W.log ≡ seen ++ rest → SeatClaims p W a numbers least seen claims → SeatClaims p W' a numbers least W'.log claims
+  pub exchange_claims : (numbers : List ℕ) (least : ℕ) (seen rest : List Entry) (claims : List Claim) → W.log ≡ seen ++ rest → SeatClaims p W a numbers least seen claims
+      → SeatClaims p W' a numbers least W'.log claims
   exchange_claims numbers least seen rest claims whole o = record {
     sound = subst (λ (es : List Entry). ClaimsSound p es claims) (sym (x.log ∙ ap (λ (es : List Entry). es ++ more) whole))
-        (claims_sound_more p (seen ++ rest) more claims (claims_sound_more p seen rest claims o.sound));
+        (claims_sound_more more (claims_sound_more rest o.sound));
     word = λ c y numbered at. x.word (claim_at least c) ∙ o.word c y numbered at;
     guard = λ c y numbered at. x.guard (claim_at least c) ∙ o.guard c y numbered at;
     others = λ y c h ne lt. let q = o.others y c h ne lt in (x.word (claim_at y c) ∙ q.0, x.guard (claim_at y c) ∙ q.1);
@@ -138,23 +106,20 @@ module _ {p : Plan} {a k : ℕ} {dropped kept fresh : List Held} {more : List En
         (λ q. subst (NoneOn p y.cell) (sym longer)
         (none_on-append p y.cell (drop y.at W.log) more (o.calm c m y at tells on (ap (λ b. b / 2) (sym (x.others y.cell q).0) ∙ names)) (x.there y.cell q)))
         (cases_eq y.cell k);
-  }
-
-  -- its scan: it has retired more
-  pub exchange_scan : (scan : Scan) (gone gone' : List ℕ) → ((m : ℕ) → has gone m ≡ true → has gone' m ≡ true) → SeatScan p W scan gone → SeatScan p W' scan gone'
-  exchange_scan scan gone gone' more_gone o = record {
-    sound = record { old = λ m h. more_gone m (o.sound.old m h); counted = o.sound.counted; within = o.sound.within };
-    found = λ w m lt e old. o.found w m lt (sym (x.guard w) ∙ e) old;
+    pages = λ c m y at tells on names. ⊎_elim
+        (λ q. absurd (tells_else c tells (o.kept c m a y at on (sym (ap W.class names) ∙ (ap (λ i. W.class (W'.backup i / 2)) q ∙ exchange_head))).0))
+        (λ q. (x.others y.cell q).1 ∙ o.pages c m y at tells on (ap (λ b. b / 2) (sym (x.others y.cell q).0) ∙ names))
+        (cases_eq y.cell k);
   }
 
   -- the seat's nodes: the fresh ones are no more its own, and the dropped ones are retired
-  pub exchange_nodes : (own own' : List Held) (gone gone' : List ℕ) → SeatNodes p W a own gone
+  pub exchange_nodes : (own own' : List Held) (gone gone' : List ℕ) → SeatNodes p W.class W.node a own gone
       → ((i : ℕ) (h : Held) → get_elem? own' i ≡ some h → (j : ℕ) × (get_elem? own j ≡ some h) × (has (nodes_of fresh) h.node ≡ false)) → Once (nodes_of own') → Once gone'
       → ((m : ℕ) → has gone' m ≡ true → (has gone m ≡ true) ⊎ (has (nodes_of dropped) m ≡ true))
-      → SeatNodes p W' a own' gone'
+      → SeatNodes p W'.class W'.node a own' gone'
   exchange_nodes own own' gone gone' o left once retired_once add = record {
-    node = λ i h at. let q = left i h at in o.node q.0 h q.1;
-    class = λ i h at. let q = left i h at in let c = o.class q.0 h q.1 in x.class h.node (false_from_ne_true (has (nodes_of dropped) h.node) (λ d. let l = of_dropped h.node d in cc)) q.2 ∙ c;
+    there = λ i h at. let q = left i h at in o.there q.0 h q.1;
+    mine = λ i h at. let q = left i h at in let c = o.mine q.0 h q.1 in x.class h.node (false_from_ne_true (has (nodes_of dropped) h.node) (λ d. let l = of_dropped h.node d in cc)) q.2 ∙ c;
     words = λ i h at. let q = left i h at in x.node h.node ∙ o.words q.0 h q.1;
     once = once;
     retired_once = retired_once;
@@ -170,39 +135,32 @@ module _ {p : Plan} {a k : ℕ} {dropped kept fresh : List Held} {more : List En
       (chained-append W' (Live k) fresh kept 0
       (chained_move W W' (Own a) (Live k) fresh (link kept 0) (λ m h. (x.into m h, x.node m)) x.mine)
       (chained_move W W' (Live k) (Live k) kept 0
-      (λ m h. let l = of_kept m h in (x.class m (false_from_ne_true (has (nodes_of dropped) m) (λ d. kept_apart m h d)) (false_from_ne_true (has (nodes_of fresh) m) (λ g. let c = of_fresh m g in cc)) ∙ l, x.node m))
+      (λ m h. let l = of_kept m h in
+      (x.class m (false_from_ne_true (has (nodes_of dropped) m) (λ d. kept_apart m h d)) (false_from_ne_true (has (nodes_of fresh) m) (λ g. let c = of_fresh m g in cc)) ∙ l, x.node m))
       parts.1))
 
   -- the cell itself
-  pub exchange_here : (after : Contents) → (k < p.registers → fresh ++ kept ≡ register_chain (W'.backup k / 2) (after.registers k)) → IsCell p W' after k
-  exchange_here after register = record {
+  pub exchange_here : records_of (fresh ++ kept) ≡ records_at p W'.log k → IsCounted (fresh ++ kept) → IsCell p W' k
+  exchange_here records counted = record {
     head = ap (λ l. link l 0) x.after ∙ (sym (link-append fresh kept 0) ∙ (head_link fresh (link kept 0) 0 x.some_fresh ∙ x.head));
     chained = exchange_chained;
     node = λ i h at. ⊎_elim (λ t. x.known i h t) (λ t. let r = at_behind dropped kept t.0 h t.2 in node_before r.0 h r.1)
         (at_append fresh kept i h (ap (λ l. get_elem? l i) (sym x.after) ∙ at));
-    register = λ lt. x.after ∙ register lt;
+    records = ap records_of x.after ∙ records;
+    counted = subst IsCounted (sym x.after) counted;
   }
 
   -- another cell
-  pub exchange_else : (before after : Contents) (j : ℕ) → j ≢ k → (j < p.registers → after.registers j ≡ before.registers j) → IsCell p W before j → IsCell p W' after j
-  exchange_else before after j ne same other =
-      let r = x.others j ne in record {
-        head = ap (λ l. link l 0) r.1 ∙ (other.head ∙ ap (λ b. b / 2 + 1) (sym r.0));
-        chained = subst (λ l. Chained W' (Live j) l 0) (sym r.1)
-            (chained_move W W' (Live j) (Live j) (W.chain j) 0 (λ m h. let q = chained_class W (Live j) (W.chain j) 0 m other.chained h in (same_class m (λ e. ne cc) (λ e. cc) ∙ q, x.node m)) other.chained);
-        node = λ i h at. other.node i h (ap (λ l. get_elem? l i) (sym r.1) ∙ at);
-        register = λ lt. r.1 ∙ (other.register lt ∙ (ap (λ b. register_chain (b / 2) (before.registers j)) (sym r.0) ∙ ap (register_chain (W'.backup j / 2)) (sym (same lt))));
-      }
-
-  abbrev contents_of : World → Contents
-  contents_of V = state_at V.log (length V.log)
+  pub exchange_else : (j : ℕ) → j ≢ k → IsCell p W j → IsCell p W' j
+  exchange_else j ne other = let r = x.others j ne in
+      cell_stays W W' r.1 (ap (λ b. b / 2) r.0) (ap (λ (l : List Entry). records_at p l j) x.log ∙ same_records p W.log more j (x.there j ne))
+      (λ m h. (same_class m (λ e. ne cc) (λ e. cc) ∙ h, x.node m)) other
 
   -- all cells
-  pub exchange_cells : CellsAgree p W → ((j : ℕ) → j ≢ k → j < p.registers → (contents_of W').registers j ≡ (contents_of W).registers j)
-      → (k < p.registers → fresh ++ kept ≡ register_chain (W'.backup k / 2) ((contents_of W').registers k)) → CellsAgree p W'
-  exchange_cells agree same register = record {
+  pub exchange_cells : CellsAgree p W → records_of (fresh ++ kept) ≡ records_at p W'.log k → IsCounted (fresh ++ kept) → CellsAgree p W'
+  exchange_cells agree records counted = record {
     cell = λ j lt. ⊎_elim
-        (λ e. subst (IsCell p W' (contents_of W')) (sym e) (exchange_here (contents_of W') register))
-        (λ ne. exchange_else (contents_of W) (contents_of W') j ne (same j ne) (agree.cell j lt))
+        (λ e. subst (IsCell p W') (sym e) (exchange_here records counted))
+        (λ ne. exchange_else j ne (agree.cell j lt))
         (cases_eq j k);
   }

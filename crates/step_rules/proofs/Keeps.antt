@@ -6,3 +6,4 @@ pub mod Looks
 pub mod Scans
 pub mod Splits
 pub mod Stores
+pub mod Walks

@@ -1,5 +1,7 @@
 -- Each caller's stands keep their order in the line.
-use Rattle.std.proofs.Common.{◌≡◌, ◌≢◌, ◌∙◌, ℕ, ◌<◌, ◌≤◌, suc, zero, Bool, true, false, not, ◌&&◌, ◌||◌, cond, eqb, ne_eqb, eq-eqb, List, [], ◌∷◌, ◌++◌, length, filter, AllPairs, append-nil, refl, sym, ap, subst, arith, ◌⊎◌, inl, inr, ⊎_elim}
+use Rattle.std.proofs.Common.{◌≡◌, ◌≢◌, ◌∙◌, ℕ, ◌<◌, ◌≤◌, suc, zero, Bool, true, false, not, ◌&&◌, ◌||◌, cond, eqb, ne_eqb, eq-eqb, List, [], ◌∷◌}
+use Rattle.std.proofs.Common.{◌++◌, length, filter, AllPairs, append-nil}
+use Rattle.std.proofs.Common.{refl, sym, ap, subst, arith, ◌⊎◌, inl, inr, ⊎_elim}
 use Rattle.std.proofs.lemmas.Bool.{eqb-true, cases_eq, cases_Bool, or_cases, false≢true, false_from_ne_true, and_parts, or_left, or_right}
 use Rattle.std.proofs.lemmas.List.Elements.{filter-append}
 use mathlib.Core.Option.{some}
@@ -42,7 +44,8 @@ pairs_from {A} R (a ∷ l) f = (
   pairs_from R l (λ i j d lt within. f (suc i) (suc j) d (omega arith) (omega arith)),
 )
 
-kept_head : {A : Type 0} (p : A → Bool) (a : A) (l : List A) (b : Bool) → (b ≡ true → p a ≡ true) → Each (λ (z : A). p z ≡ true) l → Each (λ (z : A). p z ≡ true) (cond b (a ∷ l) l)
+kept_head : {A : Type 0} (p : A → Bool) (a : A) (l : List A) (b : Bool) → (b ≡ true → p a ≡ true) → Each (λ (z : A). p z ≡ true) l
+    → Each (λ (z : A). p z ≡ true) (cond b (a ∷ l) l)
 kept_head p a l true h e = (h refl, e)
 kept_head p a l false h e = e
 
@@ -66,17 +69,20 @@ filter_twice : {A : Type 0} (p q : A → Bool) (l : List A) → filter p (filter
 filter_twice p q [] = refl
 filter_twice {A} p q (a ∷ l) = twice_head p a (filter q l) (filter (λ (z : A). q z && p z) l) (q a) (filter_twice p q l)
 
-joined : {A : Type 0} (a : A) (u v w : List A) (b c : Bool) → (b && c) ≡ false → (c ≡ true → u ≡ []) → u ++ v ≡ w → cond b (a ∷ u) u ++ cond c (a ∷ v) v ≡ cond (b || c) (a ∷ w) w
+joined : {A : Type 0} (a : A) (u v w : List A) (b c : Bool) → (b && c) ≡ false → (c ≡ true → u ≡ []) → u ++ v ≡ w
+    → cond b (a ∷ u) u ++ cond c (a ∷ v) v ≡ cond (b || c) (a ∷ w) w
 joined a u v w true true apart none e = absurd (false≢true (sym apart))
 joined a u v w true false apart none e = ap (λ z. a ∷ z) e
 joined a u v w false true apart none e = ap (λ z. z ++ (a ∷ v)) (none refl) ∙ ap (λ z. a ∷ z) (ap (λ z. z ++ v) (sym (none refl)) ∙ e)
 joined a u v w false false apart none e = e
 
 -- the elements that pass the first test, then those that pass the second, where none of the first comes after one of the second
-filter_split : {A : Type 0} (p q r : A → Bool) (l : List A) → Each (λ (a : A). (r a ≡ (p a || q a)) × ((p a && q a) ≡ false)) l → Pairs (λ (a b : A). q a ≡ true → p b ≡ false) l → filter p l ++ filter q l ≡ filter r l
+filter_split : {A : Type 0} (p q r : A → Bool) (l : List A) → Each (λ (a : A). (r a ≡ (p a || q a)) × ((p a && q a) ≡ false)) l → Pairs (λ (a b : A). q a ≡ true → p b ≡ false) l
+    → filter p l ++ filter q l ≡ filter r l
 filter_split p q r [] e f = refl
 filter_split {A} p q r (a ∷ l) e f =
-    joined a (filter p l) (filter q l) (filter r l) (p a) (q a) e.0.1 (λ h. filter_none p l (each_map (λ (b : A). q a ≡ true → p b ≡ false) (λ (b : A). p b ≡ false) l (λ b g. g h) f.0)) (filter_split p q r l e.1 f.1)
+    joined a (filter p l) (filter q l) (filter r l) (p a) (q a) e.0.1 (λ h. filter_none p l (each_map (λ (b : A). q a ≡ true → p b ≡ false) (λ (b : A). p b ≡ false) l (λ b g. g h) f.0))
+    (filter_split p q r l e.1 f.1)
     ∙ ap (λ b. cond b (a ∷ filter r l) (filter r l)) (sym e.0.0)
 
 -- a test that two elements never pass
@@ -84,8 +90,15 @@ pub at_most_one : {A : Type 0} (P : A → Type 0) (p : A → Bool) (l : List A) 
     → (filter p l ≡ []) ⊎ ((a : A) × (filter p l ≡ a ∷ []) × (p a ≡ true) × P a)
 at_most_one P p [] e f = inl refl
 at_most_one {A} P p (a ∷ l) e f = ⊎_elim
-    (λ h. inr (a, ap (λ b. cond b (a ∷ filter p l) (filter p l)) h ∙ ap (λ z. a ∷ z) (filter_none p l (each_map (λ (b : A). p a ≡ true → p b ≡ false) (λ (b : A). p b ≡ false) l (λ b g. g h) f.0)), h, e.0))
-    (λ h. ⊎_elim (λ g. inl (ap (λ b. cond b (a ∷ filter p l) (filter p l)) h ∙ g)) (λ g. inr (g.0, ap (λ b. cond b (a ∷ filter p l) (filter p l)) h ∙ g.1, g.2, g.3)) (at_most_one P p l e.1 f.1))
+    (λ h. inr (
+      a,
+      ap (λ b. cond b (a ∷ filter p l) (filter p l)) h
+          ∙ ap (λ z. a ∷ z) (filter_none p l (each_map (λ (b : A). p a ≡ true → p b ≡ false) (λ (b : A). p b ≡ false) l (λ b g. g h) f.0)),
+      h,
+      e.0,
+    ))
+    (λ h. ⊎_elim (λ g. inl (ap (λ b. cond b (a ∷ filter p l) (filter p l)) h ∙ g)) (λ g. inr (g.0, ap (λ b. cond b (a ∷ filter p l) (filter p l)) h ∙ g.1, g.2, g.3))
+    (at_most_one P p l e.1 f.1))
     (cases_Bool (p a))
 
 -- m is below q, as a test
@@ -191,7 +204,8 @@ by_other q n x stands ne = filter_twice (is_by x) (reading_by q n) stands
 
 by_own : (q n x : ℕ) (stands : List Stand) → n ≡ x → stands_by x (readings q n stands) ≡ readings q x stands
 by_own q n x stands e = subst (λ m. stands_by x (readings q m stands) ≡ readings q x stands) (sym e) (filter_twice (is_by x) (reading_by q x) stands
-    ∙ filter_same (λ (s : Stand). reading_by q x s && is_by x s) (reading_by q x) stands (each_from (λ (s : Stand). (reading_by q x s && is_by x s) ≡ reading_by q x s) stands (λ i s at. again (not s.changes) (eqb s.by x) (eqb s.place q))))
+    ∙ filter_same (λ (s : Stand). reading_by q x s && is_by x s) (reading_by q x) stands
+    (each_from (λ (s : Stand). (reading_by q x s && is_by x s) ≡ reading_by q x s) stands (λ i s at. again (not s.changes) (eqb s.by x) (eqb s.place q))))
   where
     again : (c b t : Bool) → ((c && (b && t)) && b) ≡ (c && (b && t))
     again true true true = refl
@@ -208,7 +222,8 @@ by_readings : (q n x : ℕ) (stands : List Stand) → x < n → stands_by x (rea
 by_readings q zero x stands l = absurd (omega arith)
 by_readings q (suc n) x stands l = filter-append (is_by x) (readings_below q n stands) (readings q n stands) ∙ ⊎_elim
     (λ e. ap (λ z. z ++ stands_by x (readings q n stands)) (by_readings_high q n x stands (omega arith)) ∙ by_own q n x stands e)
-    (λ ne. ap (λ z. z ++ stands_by x (readings q n stands)) (by_readings q n x stands (omega arith)) ∙ (ap (λ z. readings q x stands ++ z) (by_other q n x stands ne) ∙ append-nil (readings q x stands)))
+    (λ ne. ap (λ z. z ++ stands_by x (readings q n stands)) (by_readings q n x stands (omega arith))
+    ∙ (ap (λ z. readings q x stands ++ z) (by_other q n x stands ne) ∙ append-nil (readings q x stands)))
     (cases_eq n x)
 
 by_line : (seats q x : ℕ) (stands : List Stand) → x < seats → Pairs Below stands → stands_by x (line_before seats q stands) ≡ filter (below_place (is_by x) q) stands
@@ -226,7 +241,8 @@ by_line seats (suc q) x stands l rising =
 abbrev pub Within : List Entry → Stand → Type 0
 Within history s = (s.place ≤ length history) × (s.changes ≡ true → s.place < length history)
 
-pub by_whole : (seats x : ℕ) (history : List Entry) (stands : List Stand) → x < seats → Pairs Below stands → Each (Within history) stands → stands_by x (line_of seats history stands) ≡ stands_by x stands
+pub by_whole : (seats x : ℕ) (history : List Entry) (stands : List Stand) → x < seats → Pairs Below stands → Each (Within history) stands
+    → stands_by x (line_of seats history stands) ≡ stands_by x stands
 by_whole seats x history stands l rising within =
     let n = length history in
     filter-append (is_by x) (line_before seats n stands) (readings_below n seats stands)

@@ -19,7 +19,9 @@ without_else n x xs e = cond-true (not (eqb x.node n)) (x ∷ without n xs) (wit
 abbrev StoodIn : ℕ → List Held → Held → Type 0
 StoodIn n xs h = (j : ℕ) × (get_elem? xs j ≡ some h) × (h.node ≢ n)
 
-first_at : (n : ℕ) (x : Held) (xs : List Held) (i : ℕ) (h : Held) → ((i : ℕ) → get_elem? (without n xs) i ≡ some h → StoodIn n xs h) → x.node ≢ n → get_elem? (x ∷ without n xs) i ≡ some h → StoodIn n (x ∷ xs) h
+first_at : (n : ℕ) (x : Held) (xs : List Held) (i : ℕ) (h : Held) → ((i : ℕ) → get_elem? (without n xs) i ≡ some h → StoodIn n xs h) → x.node ≢ n
+    → get_elem? (x ∷ without n xs) i ≡ some h
+    → StoodIn n (x ∷ xs) h
 first_at n x xs zero h rest apart at = let s : x ≡ h = some-injective x h at in (0, at, subst (λ (y : Held). y.node ≢ n) s apart)
 first_at n x xs (suc i) h rest apart at = let r = rest i at in (suc r.0, r.1, r.2)
 

@@ -1,5 +1,7 @@
 -- The lists of a scan: the nodes that its words name, and the retired ones, of which it keeps a part.
-use Rattle.std.proofs.Common.{◌≡◌, ◌≢◌, ℕ, ◌+◌, ◌-◌, ◌<◌, ◌≤◌, suc, zero, Bool, true, false, not, ◌||◌, ◌&&◌, List, [], ◌∷◌, ◌++◌, length, take, filter, set, eqb, ltb, cond, eq-eqb, ne_eqb, get_or, refl, sym, ap, ◌∙◌, append_assoc, arith, ⊎_elim, Result, Ok, Err}
+use Rattle.std.proofs.Common.{◌≡◌, ◌≢◌, ℕ, ◌+◌, ◌-◌, ◌<◌, ◌≤◌, suc, zero, Bool, true, false, not, ◌||◌, ◌&&◌, List, [], ◌∷◌, ◌++◌, length, take}
+use Rattle.std.proofs.Common.{filter, set, eqb, ltb, cond, eq-eqb, ne_eqb}
+use Rattle.std.proofs.Common.{get_or, refl, sym, ap, ◌∙◌, append_assoc, arith, ⊎_elim, Result, Ok, Err}
 use Rattle.std.proofs.lemmas.Bool.{cases_lt, le-ltb, lt-ltb, or_left, true≢false}
 use Rattle.std.proofs.lemmas.List.{append-nil, drop_more, length-append, length-take-le}
 use Rattle.std.proofs.lemmas.List.Elements.{filter_more}
@@ -45,7 +47,8 @@ none_from [] n other = refl
 none_from (x ∷ xs) n other = ap (λ b. b || has xs n) (ne_eqb x n (other 0 (omega arith))) ∙ none_from xs n (λ k lt. other (suc k) (omega arith))
 
 found_or_not : (xs : List ℕ) (n : ℕ) (r : Result ℕ ℕ)
-    → MatchResult r (λ i. (i < length xs) × (get_or xs i 0 ≡ n)) (λ i. (i ≤ length xs) × ((k : ℕ) → k < i → get_or xs k 0 < n) × ((k : ℕ) → i ≤ k → k < length xs → n < get_or xs k 0))
+    → MatchResult r (λ i. (i < length xs) × (get_or xs i 0 ≡ n)) (λ i. (i ≤ length xs) × ((k : ℕ) → k < i → get_or xs k 0 < n) × ((k : ℕ) → i ≤ k → k < length xs
+    → n < get_or xs k 0))
     → is_err r ≡ not (has xs n)
 found_or_not xs n (Ok i) at = ap not (sym (ap (has xs) (sym at.1) ∙ has_from xs i 0 at.0))
 found_or_not xs n (Err i) at = ap not (sym (none_from xs n (λ k lt e. ⊎_elim
@@ -107,7 +110,9 @@ module _ (f : ℕ → Bool) (xs ys free free' : List ℕ) (k i : ℕ) (parted : 
     }
 
 -- the test that tells whether the node at i is free
-pub frees_test : (old i x : ℕ) (xs found sorted : List ℕ) (b : Bool) → Once xs → i < length xs → get_or xs i x ≡ x → IsPermutation found sorted → b ≡ (ltb i old && not (has sorted x)) → frees_first old xs found x ≡ b
+pub frees_test : (old i x : ℕ) (xs found sorted : List ℕ) (b : Bool) → Once xs → i < length xs → get_or xs i x ≡ x → IsPermutation found sorted
+    → b ≡ (ltb i old && not (has sorted x))
+    → frees_first old xs found x ≡ b
 frees_test old i x xs found sorted b once inside is same e =
     ap (λ c. c && not (has found x)) (ap (has (take old xs)) (sym is) ∙ has_early xs i old x once inside)
     ∙ (ap (λ c. ltb i old && not c) (sym (has_permuted found sorted same x)) ∙ sym e)

@@ -1,7 +1,9 @@
 -- What holds of a seat's free and held nodes, and of the words of its own nodes as they are stored.
-use Rattle.std.proofs.Common.{◌≡◌, ◌≢◌, ℕ, ◌-◌, ◌<◌, true, false, List, [], ◌∷◌, length, map, set, get_or, eqb, cond, eq-eqb, ne_eqb, refl, sym, ap, ◌∙◌, subst, arith, ⊎_elim}
+use Rattle.std.proofs.Common.{◌≡◌, ◌≢◌, ℕ, ◌-◌, ◌<◌, true, false, List, [], ◌∷◌, length, map, set, get_or, eqb, cond, eq-eqb, ne_eqb, refl, sym, ap, ◌∙◌, subst}
+use Rattle.std.proofs.Common.{arith, ⊎_elim}
 use Rattle.std.proofs.lemmas.Bool.{cases_eq, cond-true, cond-false, false≢true, false_from_ne_true}
 use Rattle.step_rules.proofs.Bags.{has_times, one_list, times_has}
+use Rattle.step_rules.proofs.Keeps.Stores.{stored_else, stored_here}
 use Rattle.step_rules.proofs.Owns.{words_at}
 use Rattle.step_rules.proofs.Sets.{at_has, has_from}
 use Rattle.step_rules.specs.SeatData.{IsSeat, SeatData}
@@ -33,13 +35,7 @@ module _ (seat : SeatData) (is : IsSeat seat) (n : ℕ) where
   own_wide h = let a = at_has seat.view.own n h in
       ap (length {A = ℕ}) (words_at n seat.view.own a.0 a.1 is.sound.own_once a.2 a.3) ∙ (is.sound.node a.0 a.1 a.2).wide
 
--- a store to a word of a node, node by node
-stored_here : (n j x : ℕ) (h : Held) → h.node ≡ n → stored_in n j x h ≡ record { node = h.node; words = set h.words j x }
-stored_here n j x h e = cond-true (eqb h.node n) (record { node = h.node; words = set h.words j x }) h (eq-eqb h.node n e)
-
-stored_else : (n j x : ℕ) (h : Held) → h.node ≢ n → stored_in n j x h ≡ h
-stored_else n j x h e = cond-false (eqb h.node n) (record { node = h.node; words = set h.words j x }) h (ne_eqb h.node n e)
-
+-- the words of a node, node by node
 words_here : (n : ℕ) (h : Held) (r : List Held) → h.node ≡ n → words_in (h ∷ r) n ≡ h.words
 words_here n h r e = cond-true (eqb h.node n) h.words (words_in r n) (eq-eqb h.node n e)
 

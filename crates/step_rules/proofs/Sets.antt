@@ -1,5 +1,6 @@
 -- Lists of numbers without repetition, what stands in them, and how long they are.
-use Rattle.std.proofs.Common.{◌≡◌, ◌≢◌, ℕ, ◌+◌, ◌<◌, ◌≤◌, suc, zero, true, false, List, [], ◌∷◌, ◌++◌, length, get_or, eqb, cond, eq-eqb, refl, sym, ap, ◌∙◌, subst, arith, ◌⊎◌, inl, inr, ⊎_elim}
+use Rattle.std.proofs.Common.{◌≡◌, ◌≢◌, ℕ, ◌+◌, ◌<◌, ◌≤◌, suc, zero, true, false, List, [], ◌∷◌, ◌++◌, length, get_or, eqb, cond, eq-eqb, refl, sym, ap}
+use Rattle.std.proofs.Common.{◌∙◌, subst, arith, ◌⊎◌, inl, inr, ⊎_elim}
 use Rattle.std.proofs.lemmas.Bool.{eqb-true, cases_eq, cases_Bool, or_cases, or_right, or_left, or_parts, false≢true, false_from_ne_true, or_from}
 use mathlib.Core.Option.{some, some-injective, some-ne-none}
 use lib.ListN.{get_elem?}
@@ -28,7 +29,8 @@ without_length : (x : ℕ) (ys : List ℕ) → has ys x ≡ true → suc (length
 without_length x [] h = absurd (false≢true h)
 without_length x (y ∷ ys) h = ⊎_elim
     (λ e. subst (λ b. suc (length (cond b ys (y ∷ without x ys))) ≡ suc (length ys)) (sym e) refl)
-    (λ e. subst (λ b. suc (length (cond b ys (y ∷ without x ys))) ≡ suc (length ys)) (sym e) (ap suc (without_length x ys (⊎_elim (λ t. absurd (false≢true (sym e ∙ t))) (λ t. t) (or_cases (eqb y x) (has ys x) h)))))
+    (λ e. subst (λ b. suc (length (cond b ys (y ∷ without x ys))) ≡ suc (length ys)) (sym e)
+    (ap suc (without_length x ys (⊎_elim (λ t. absurd (false≢true (sym e ∙ t))) (λ t. t) (or_cases (eqb y x) (has ys x) h)))))
     (cases_Bool (eqb y x))
 
 without_has : (x n : ℕ) (ys : List ℕ) → n ≢ x → has ys n ≡ true → has (without x ys) n ≡ true
@@ -120,7 +122,8 @@ first_number (x ∷ xs) ys lt = refl
 
 has_count : (m n x : ℕ) → m ≤ x → x < m + n → has (count_up m n) x ≡ true
 has_count m zero x a b = absurd (omega arith)
-has_count m (suc n) x a b = ⊎_elim (λ e. or_left (eqb m x) (has (count_up (suc m) n) x) (eq-eqb m x e)) (λ e. or_right (eqb m x) (has (count_up (suc m) n) x) (has_count (suc m) n x (omega arith) (omega arith))) (cases_eq m x)
+has_count m (suc n) x a b = ⊎_elim (λ e. or_left (eqb m x) (has (count_up (suc m) n) x) (eq-eqb m x e))
+    (λ e. or_right (eqb m x) (has (count_up (suc m) n) x) (has_count (suc m) n x (omega arith) (omega arith))) (cases_eq m x)
 
 pub length-count_up : (m n : ℕ) → length (count_up m n) ≡ n
 length-count_up m zero = refl
@@ -129,7 +132,8 @@ length-count_up m (suc n) = ap suc (length-count_up (suc m) n)
 -- as many numbers below n as n, each once, are all of them
 pub all_there : (xs : List ℕ) (n x : ℕ) → Once xs → ((y : ℕ) → has xs y ≡ true → y < n) → length xs ≡ n → x < n → has xs x ≡ true
 all_there xs n x once below long lt = ⊎_elim (λ e. e)
-    (λ e. let l = at_most (x ∷ xs) (count_up 0 n) (e, once) (λ y h. has_count 0 n y (omega arith) (⊎_elim (λ q. let r : x ≡ y = eqb-true x y q in omega arith) (λ q. let l = below y q in omega arith) (or_cases (eqb x y) (has xs y) h))) in
+    (λ e. let l = at_most (x ∷ xs) (count_up 0 n) (e, once)
+    (λ y h. has_count 0 n y (omega arith) (⊎_elim (λ q. let r : x ≡ y = eqb-true x y q in omega arith) (λ q. let l = below y q in omega arith) (or_cases (eqb x y) (has xs y) h))) in
     absurd (omega (arith, length-count_up 0 n)))
     (cases_Bool (has xs x))
 

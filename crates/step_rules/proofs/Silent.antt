@@ -15,7 +15,7 @@ use Rattle.step_rules.specs.declared.layout.TheConstants.{CLAIMS}
 use Rattle.step_rules.specs.declared.plan.Plan.{Plan}
 use Rattle.step_rules.specs.declared.view.Claim.{Claim}
 use Rattle.step_rules.specs.declared.view.View.{View}
-use Rattle.step_rules.proofs.Keeps.Stores.{claim_found}
+use Rattle.step_rules.proofs.Advance.{claim_found}
 use Rattle.step_rules.proofs.Places.{at_below}
 use Rattle.step_rules.proofs.Sets.{any_number}
 
@@ -72,11 +72,12 @@ claims_quiet p W s numbers least seen claims first sound quiet none =
       image = λ c n x at on. absurd (still c n x at on);
       kept = λ c n t x at on own. absurd (still c n x at on);
       calm = λ c n x at tells on e. absurd (still c n x at on);
+      pages = λ c n x at tells on e. absurd (still c n x at on);
     }
 
 -- and then nothing stands in its claim words
 pub unclaimed : (p : Plan) (W : World) (s : ℕ) (v : View) → SeatOk p W s v → Quiet v.claims → Unclaimed W v.numbers
-unclaimed p W s v ok quiet x c h lt = let k = ok.claims in let y = claim_of c v in let at = claim_found p W s v c ok lt in let some_number = any_number v.numbers x h in ⊎_elim
+unclaimed p W s v ok quiet x c h lt = let k = ok.claims in let y = claim_of c v in let at = claim_found k c lt in let some_number = any_number v.numbers x h in ⊎_elim
     (λ e. (
       ap (λ z. W.word (claim_at z c)) e ∙ (k.word c y some_number at ∙ quiet c y at),
       ap (λ z. W.guard (claim_at z c)) e ∙ (k.guard c y some_number at ∙ guard_zero y.stands y.word (quiet c y at)),

@@ -1,20 +1,20 @@
 -- The lists and numbers of the two seats after a split.
-use Rattle.std.proofs.Common.{◌≡◌, ◌∙◌, ℕ, ◌+◌, ◌-◌, ◌*◌, ◌<◌, ◌≤◌, Bool, true, false, suc, zero, List, [], ◌∷◌, ◌++◌, length, take, drop, map, replicate, get_or, cond, append-nil, ap, refl, sym, subst, arith, is_some, mul-le-mul_left, mul-suc}
+use Rattle.std.proofs.Common.{map, ◌≡◌, ◌∙◌, ℕ, ◌+◌, ◌-◌, ◌*◌, ◌<◌, ◌≤◌, Bool, true, false, suc, zero, List, [], ◌∷◌, ◌++◌, Vec, Global, vec_capacity}
+use Rattle.std.proofs.Common.{length, take, drop, get_or, cond}
+use Rattle.std.proofs.Common.{ap, refl, sym, arith, is_some, mul-le-mul_left, mul-suc}
 use Rattle.std.proofs.Math.Seq.{drop-append_seam, take-append_seam}
 use Rattle.std.proofs.lemmas.List.{length-take-le}
-use Rattle.atomic_table.specs.Table.{Me}
+use Rattle.atomic_table.specs.declared.shared.Seat.{Seat}
 use Rattle.seat_history.specs.declared.call.Call.{Call}
 use Rattle.step_rules.proofs.Ranges.{count_parts}
 use Rattle.step_rules.proofs.Sets.{length-count_up, length-nodes_of}
-use Rattle.step_rules.proofs.Silent.{Quiet, no_claims_quiet, none_announced}
-use Rattle.step_rules.proofs.Tied.{IsWhole, scan_stays}
-use Rattle.step_rules.specs.Bags.{times}
+use Rattle.step_rules.proofs.Tied.{IsNew, IsWhole, Ties}
 use Rattle.step_rules.specs.Lawful.{held_by}
-use Rattle.step_rules.specs.SeatData.{IsFresh, IsScan, IsTied, room_of}
-use Rattle.step_rules.specs.Sound.{Sound}
+use Rattle.step_rules.proofs.Stocks.{stock_unused}
+use Rattle.step_rules.specs.SeatData.{IsFresh, room_of}
+use Rattle.step_rules.specs.declared.seat.Seat.TheInside.{Inside}
 use Rattle.step_rules.specs.Views.{count_up, left_view, number, right_view}
-use Rattle.step_rules.specs.World.{has, nodes_of}
-use Rattle.step_rules.specs.declared.layout.TheConstants.{CLAIMS}
+use Rattle.step_rules.specs.World.{nodes_of}
 use Rattle.step_rules.specs.declared.view.Claim.{Claim}
 use Rattle.step_rules.specs.declared.view.Held.{Held}
 use Rattle.step_rules.specs.declared.view.Scan.{Scan}
@@ -40,22 +40,26 @@ take_count m n = ap (take n) (count_parts m n 1) ∙ (ap (λ k. take k (count_up
 drop_count : (m n : ℕ) → drop n (count_up m (n + 1)) ≡ (m + n) ∷ []
 drop_count m n = ap (drop n) (count_parts m n 1) ∙ (ap (λ k. drop k (count_up m n ++ count_up (m + n) 1)) (sym (length-count_up m n)) ∙ drop-append_seam (count_up m n) (count_up (m + n) 1))
 
-module _ (me : Me Call View) (count : ℕ) (first unused holds : Bool) (free holding words : List ℕ) (for_free for_holding for_retired : ℕ)
-    (tied : IsTied me count first unused holds free holding words for_free for_holding for_retired) (is_unused : unused ≡ true) (more : 1 < length me.0.numbers) where
+nothing : (xs : List ℕ) → length xs ≡ 0 → xs ≡ []
+nothing [] e = refl
+nothing (x ∷ xs) e = absurd (omega arith)
+
+-- a seat that made no step but splits, and holds more than one number
+module _ (s : Inside) (tied : Ties s) (unused : s.fresh ≡ true) (more : 1 < length s.inner.me.0.numbers) where
   abbrev v : View
-  v = me.0
+  v = s.inner.me.0
 
   abbrev last : ℕ
   last = length v.numbers - 1
 
-  pub fresh : IsFresh v free holding
-  fresh = tied.fresh is_unused
+  pub fresh : IsFresh v s.free.items s.holding.items
+  fresh = tied.fresh unused
+
+  one : length v.numbers ≡ last + 1
+  one = omega arith
 
   all : v.numbers ≡ count_up (number v) (last + 1)
   all = fresh.numbers ∙ (λ i. count_up (number v) (one i))
-    where
-      one : length v.numbers ≡ last + 1
-      one = omega arith
 
   pub left_numbers : take last v.numbers ≡ count_up (number v) last
   left_numbers = ap (take last) all ∙ take_count (number v) last
@@ -76,130 +80,77 @@ module _ (me : Me Call View) (count : ℕ) (first unused holds : Bool) (free hol
   pub right_least : number v + last ≡ number (right_view v)
   right_least = sym (ap (λ l. get_or l 0 0) right_numbers)
 
+  one_less : (n : ℕ) → n * length v.numbers ≡ n * last + n
+  one_less n = ap (λ l. n * l) (let e = one in omega arith) ∙ mul-suc n last
+
   -- all nodes are free
-  pub free_length : length free ≡ cut_at v + v.plan.share
-  free_length = let s = tied.sound.stock in
-      omega (arith, ap (length {A = ℕ}) fresh.free, length-nodes_of v.own, ap (length {A = ℕ}) fresh.retired, mul-suc v.plan.share last, ap (λ n. v.plan.share * n) one)
-    where
-      one : length v.numbers ≡ suc last
-      one = omega arith
+  pub free_length : length s.free.items ≡ cut_at v + v.plan.share
+  free_length = let s = stock_unused v.plan (length v.numbers) v.seen v.stands (length v.own + length v.retired) v.removes fresh.stands tied.sound.stock in
+      omega (arith, ap (length {A = ℕ}) fresh.free, length-nodes_of v.own, ap (length {A = ℕ}) fresh.retired, one_less v.plan.share)
 
   record_none : (x : ℕ) → is_some (held_by v.seen x v.stands) ≡ false
   record_none x = ap (λ l. is_some (held_by v.seen x l)) fresh.stands
 
-  left_free : take (cut_at v) free ≡ nodes_of (take (cut_at v) v.own)
+  left_free : take (cut_at v) s.free.items ≡ nodes_of (take (cut_at v) v.own)
   left_free = ap (take (cut_at v)) fresh.free ∙ sym (nodes_of-take (cut_at v) v.own)
 
-  right_free : drop (cut_at v) free ≡ nodes_of (drop (cut_at v) v.own)
+  right_free : drop (cut_at v) s.free.items ≡ nodes_of (drop (cut_at v) v.own)
   right_free = ap (drop (cut_at v)) fresh.free ∙ sym (nodes_of-drop (cut_at v) v.own)
 
-  right_length : length (drop last v.numbers) ≡ 1
+  pub right_length : length (drop last v.numbers) ≡ 1
   right_length = ap (length {A = ℕ}) right_numbers
 
-  room_less : (b : Bool) → v.plan.share * cond b v.plan.seats (length (take last v.numbers)) ≤ v.plan.share * cond b v.plan.seats (length v.numbers)
+  room_less : (b : Bool) → v.plan.share * cond b v.plan.seats (length (take last v.numbers)) + v.plan.removes * cond b v.plan.seats (length (take last v.numbers))
+      ≤ v.plan.share * cond b v.plan.seats (length v.numbers) + v.plan.removes * cond b v.plan.seats (length v.numbers)
   room_less true = omega arith
-  room_less false = mul-le-mul_left v.plan.share (omega (arith, left_length))
+  room_less false = let l : length (take last v.numbers) ≤ length v.numbers = omega (arith, left_length) in let a = mul-le-mul_left v.plan.share l in
+      let b = mul-le-mul_left v.plan.removes l in omega arith
 
-  share_room : room_of false (right_view v) ≡ v.plan.share
-  share_room = omega (arith, ap (λ n. v.plan.share * n) right_length)
+  pub share_room : room_of false (right_view v) ≡ v.plan.share + v.plan.removes
+  share_room = omega (arith, ap (λ n. v.plan.share * n) right_length, ap (λ n. v.plan.removes * n) right_length)
 
-  unclaimed : Quiet v.claims
-  unclaimed = subst Quiet (sym fresh.claims) no_claims_quiet
-
-  left_is : Sound (left_view v) → IsTied (left_view v, []) (count - 1) first unused holds (take (cut_at v) free) holding words for_free for_holding for_retired
-  left_is sound = record {
-    slots = refl;
-    sound = sound;
-    numbers = omega (arith, left_length, tied.numbers);
-    holds = tied.holds ∙ (record_none (number v) ∙ sym (record_none (number (left_view v))));
-    lists = λ n. omega (arith, ap (times n) left_free, ap (times n) fresh.holding);
-    long = omega (arith, ap (length {A = ℕ}) left_free, length-nodes_of (take (cut_at v) v.own), ap (length {A = ℕ}) fresh.holding);
-    claims = tied.claims;
-    own_free = none_announced (take (cut_at v) free) (left_view v) unclaimed;
-    room_free = omega (arith, room_less first, tied.room_free);
-    room_holding = omega (arith, room_less first, tied.room_holding);
-    room_retired = omega (arith, room_less first, tied.room_retired);
-    fresh = λ _. record {
-      numbers = left_numbers ∙ (λ i. count_up (left_least i) (sym left_length i));
-      free = left_free;
-      holding = fresh.holding;
-      retired = fresh.retired;
-      seen = fresh.seen;
-      stands = fresh.stands;
-      trail = fresh.trail;
-      claims = fresh.claims;
-      scan = fresh.scan;
-      changes = ap (λ n. v.plan.changes * n) (sym left_length);
-      removes = ap (λ n. v.plan.removes * n) (sym left_length);
-    };
-  }
-
-  right_is : Sound (right_view v) → (made_free made_holding made_retired : ℕ) → (v.plan.share ≤ made_free) × (v.plan.share ≤ made_holding) × (v.plan.share ≤ made_retired)
-      → IsTied (right_view v, []) 1 false true false (drop (cut_at v) free) [] (replicate CLAIMS 0) made_free made_holding made_retired
-  right_is sound made_free made_holding made_retired room = record {
-    slots = refl;
-    sound = sound;
-    numbers = sym right_length;
-    holds = sym (record_none (number (right_view v)));
-    lists = λ n. omega (arith, ap (times n) right_free);
-    long = omega (arith, ap (length {A = ℕ}) right_free, length-nodes_of (drop (cut_at v) v.own));
-    claims = sym (ap (map (λ (x : Claim). x.word)) fresh.claims);
-    own_free = none_announced (drop (cut_at v) free) (right_view v) unclaimed;
-    room_free = omega (arith, share_room, room.0);
-    room_holding = omega (arith, share_room, room.1);
-    room_retired = omega (arith, share_room, room.2);
-    fresh = λ _. record {
-      numbers = right_numbers ∙ (λ i. count_up (right_least i) (sym right_length i));
-      free = right_free;
-      holding = refl;
-      retired = fresh.retired;
-      seen = fresh.seen;
-      stands = fresh.stands;
-      trail = fresh.trail;
-      claims = fresh.claims;
-      scan = fresh.scan;
-      changes = omega (arith, ap (λ n. v.plan.changes * n) right_length);
-      removes = omega (arith, ap (λ n. v.plan.removes * n) right_length);
-    };
+  -- a part of the seat, which made no step either
+  part_fresh : (ns : List ℕ) (own : List Held) (changes removes : ℕ) (free holding : List ℕ) → ns ≡ count_up (get_or ns 0 0) (length ns) → free ≡ nodes_of own → holding ≡ []
+      → changes ≡ v.plan.changes * length ns → removes ≡ v.plan.removes * length ns → IsFresh (record v { numbers = ns; own = own; changes = changes; removes = removes }) free holding
+  part_fresh ns own changes removes free holding numbers nodes none is_changes is_removes = record {
+    numbers = numbers;
+    free = nodes;
+    holding = none;
+    retired = fresh.retired;
+    seen = fresh.seen;
+    stands = fresh.stands;
+    trail = fresh.trail;
+    claims = fresh.claims;
+    scan = fresh.scan;
+    changes = is_changes;
+    removes = is_removes;
   }
 
   -- the seat that was cut
-  pub left_tied : (kept : Me Call View) (list : List ℕ) (least changes removes room : ℕ) (gone : List ℕ) (next old : ℕ) (found : List ℕ) (for_found : ℕ) → kept ≡ (left_view v, []) → Sound kept.0 → list ≡ take (cut_at v) free → room ≡ for_free
-      → least ≡ number v → changes ≡ v.changes → removes ≡ v.removes → gone ≡ v.retired → IsScan v next old found for_found
-      → IsWhole kept least (count - 1) first unused holds (changes - v.plan.changes) (removes - v.plan.removes) list holding gone words next old found room for_holding for_retired for_found
-  left_tied kept list least changes removes room gone next old found for_found is sound cut same a b d e scan =
-      subst (λ (k : Me Call View). IsWhole k least (count - 1) first unused holds (changes - v.plan.changes) (removes - v.plan.removes) list holding gone words next old found room for_holding for_retired for_found) (sym is) (
-        subst (λ (z : List ℕ × ℕ). IsTied (left_view v, []) (count - 1) first unused holds z.0 holding words z.1 for_holding for_retired) (λ i. (sym cut i, sym same i)) (left_is (subst (λ (k : Me Call View). Sound k.0) is sound)),
-        a ∙ left_least,
-        omega (arith, b, fresh.changes, one_less v.plan.changes),
-        omega (arith, d, fresh.removes, one_less v.plan.removes),
-        e,
-        scan_stays v (left_view v) [] next old found for_found scan refl (sym (append-nil v.retired)) refl,
-      )
-    where
-      one_less : (n : ℕ) → n * length v.numbers ≡ n * last + n
-      one_less n = ap (λ l. n * l) one ∙ mul-suc n last
-        where
-          one : length v.numbers ≡ suc last
-          one = omega arith
+  pub left_new : (inner : Seat Call View) (free : Vec ℕ Global) → IsWhole s → free.items ≡ take (cut_at v) s.free.items → vec_capacity free ≡ vec_capacity s.free
+      → IsNew (record s { inner = inner; numbers = s.numbers - 1; changes = s.changes - v.plan.changes; removes = s.removes - v.plan.removes; free = free }) (left_view v)
+  left_new inner free whole cut same_room = let scan = whole.5 in let none = ap length fresh.retired in record {
+    fresh = part_fresh (take last v.numbers) (take (cut_at v) v.own) (v.plan.changes * last) (v.plan.removes * last) free.items s.holding.items
+        (left_numbers ∙ (λ i. count_up (left_least i) (sym left_length i))) (cut ∙ left_free) fresh.holding (ap (λ n. v.plan.changes * n) (sym left_length))
+        (ap (λ n. v.plan.removes * n) (sym left_length));
+    numbers = omega (arith, left_length, tied.numbers);
+    least = whole.1 ∙ left_least;
+    no_record = tied.holds ∙ record_none (number v);
+    changes = omega (arith, whole.2, fresh.changes, one_less v.plan.changes);
+    removes = omega (arith, whole.3, fresh.removes, one_less v.plan.removes);
+    retired = whole.4 ∙ fresh.retired;
+    claims = tied.claims ∙ ap (map (λ (x : Claim). x.word)) fresh.claims;
+    scan_next = scan.next_is ∙ ap (λ (z : Scan). z.next) fresh.scan;
+    scan_old = let within = scan.old_within in omega arith;
+    scan_found = nothing s.scan_found.items (scan.long ∙ ap (λ (z : Scan). length z.found) fresh.scan);
+    room_free = omega (arith, room_less s.first, tied.room_free, same_room);
+    room_holding = omega (arith, room_less s.first, tied.room_holding);
+    room_retired = omega (arith, room_less s.first, tied.room_retired);
+    room_found = scan.room;
+  }
 
   -- the new seat
-  pub right_tied : (made : Me Call View) (list made_holding gone found : List ℕ) (least for_list for_held for_gone for_found : ℕ) → made ≡ (right_view v, []) → Sound made.0 → list ≡ drop (cut_at v) free
-      → made_holding ≡ [] → gone ≡ [] → found ≡ [] → least ≡ number v + last → (v.plan.share ≤ for_list) × (v.plan.share ≤ for_held) × (v.plan.share ≤ for_gone) × (CLAIMS * v.plan.seats ≤ for_found)
-      → IsWhole made least 1 false true false v.plan.changes v.plan.removes list made_holding gone (replicate CLAIMS 0) 0 0 found for_list for_held for_gone for_found
-  right_tied made list made_holding gone found least for_list for_held for_gone for_found is sound cut none no_gone none_found a room =
-      subst (λ (k : Me Call View). IsWhole k least 1 false true false v.plan.changes v.plan.removes list made_holding gone (replicate CLAIMS 0) 0 0 found for_list for_held for_gone for_found) (sym is) (
-        subst (λ (l : List ℕ × List ℕ). IsTied (right_view v, []) 1 false true false l.0 l.1 (replicate CLAIMS 0) for_list for_held for_gone) (λ i. (sym cut i, sym none i)) (right_is (subst (λ (k : Me Call View). Sound k.0) is sound) for_list for_held for_gone (room.0, room.1, room.2)),
-        a ∙ right_least,
-        refl,
-        refl,
-        no_gone ∙ sym fresh.retired,
-        record {
-          next_is = ap (λ (z : Scan). z.next) (sym fresh.scan);
-          old_is = ap (λ (z : Scan). z.old) fresh.scan;
-          old_within = omega arith;
-          found_is = λ n. ap (λ l. has l n) none_found ∙ ap (λ (z : Scan). has z.found n) (sym fresh.scan);
-          long = ap (length {A = ℕ}) none_found ∙ ap (λ (z : Scan). length z.found) (sym fresh.scan);
-          room = room.3;
-        },
-      )
+  pub right_fresh : (free holding : List ℕ) → free ≡ drop (cut_at v) s.free.items → holding ≡ [] → IsFresh (right_view v) free holding
+  right_fresh free holding cut none = part_fresh (drop last v.numbers) (drop (cut_at v) v.own) v.plan.changes v.plan.removes free holding
+      (right_numbers ∙ (λ i. count_up (right_least i) (sym right_length i)))
+      (cut ∙ right_free) none (omega (arith, ap (λ n. v.plan.changes * n) right_length)) (omega (arith, ap (λ n. v.plan.removes * n) right_length))

@@ -1,34 +1,43 @@
 -- What ties a seat's own numbers and lists to its view, and what its steps leave of it.
-use Rattle.std.proofs.Common.{◌≡◌, ◌≢◌, ℕ, ◌+◌, ◌-◌, ◌*◌, ◌/◌, ◌<◌, ◌≤◌, Bool, true, false, List, [], ◌∷◌, ◌++◌, length, length-append, cond, eqb, get_or, set, take, append-nil, mul-le-mul_left, refl, sym, ap, ◌∙◌, ⊎_elim, inl, subst, arith}
+use Rattle.std.proofs.Common.{◌≡◌, ◌≢◌, ℕ, ◌+◌, ◌*◌, ◌/◌, ◌<◌, ◌≤◌, Bool, true, false, List, [], ◌∷◌, ◌++◌, Vec, Global, vec_capacity, is_some}
+use Rattle.std.proofs.Common.{length, length-append, map, cond, get_or, set}
+use Rattle.std.proofs.Common.{take, replicate, append-nil, mul-le-mul_left, refl, sym, ap, ◌∙◌, ⊎_elim, inl, subst, arith}
 use Rattle.std.proofs.Math.Seq.{map-set_same}
-use Rattle.std.proofs.lemmas.Bool.{cases_Bool, cases_eq, false≢true}
+use Rattle.std.proofs.lemmas.Bool.{cases_eq, false≢true}
 use Rattle.std.proofs.lemmas.List.{map-set, take-append-le}
 use Rattle.std.proofs.lemmas.Nat.{mul-le}
 use mathlib.Core.Option.{some}
 use lib.ListN.{get_elem?}
 use Rattle.atomic_table.proofs.Lists.{at_set}
-use Rattle.seat_history.specs.History.{state_at}
+use Rattle.atomic_table.specs.Table.{Me}
+use Rattle.atomic_table.specs.declared.shared.Seat.{Seat}
 use Rattle.seat_history.specs.declared.call.Call.{Call}
+use Rattle.seat_history.specs.declared.entry.Entry.{Entry}
 use Rattle.seat_history.specs.declared.reply.Reply.{Reply}
-use Rattle.step_rules.proofs.Bags.{has_times, one_list, times-append, times-without, times_has, times_none}
+use Rattle.step_rules.proofs.Advance.{tells_else}
+use Rattle.step_rules.proofs.Bags.{has_times, one_list, times-append, times_has, times_none}
+use Rattle.step_rules.proofs.Keeps.Claiming.{announced_word}
 use Rattle.step_rules.proofs.Keeps.Stores.{stored_nodes}
-use Rattle.step_rules.proofs.Owns.{length-without}
-use Rattle.step_rules.proofs.Records.{claimed_holds, holding_after, looked_holds, stood_holds, won_holds}
+use Rattle.step_rules.proofs.Records.{held_longer, holding_after, stood_holds}
+use Rattle.step_rules.proofs.Silent.{Quiet, no_claims_quiet, none_announced}
+use Rattle.step_rules.proofs.Stocks.{stock_within}
 use Rattle.step_rules.proofs.Sets.{at_has, at_most_below, has_first, length-nodes_of}
 use Rattle.step_rules.specs.Bags.{IsWithout, times}
-use Rattle.step_rules.specs.Claims.{BACK, OWN, On, Tells}
-use Rattle.step_rules.specs.Kinds.Backup.{Looks, MayExchange, Wins}
+use Rattle.step_rules.specs.Claims.{BACK, OWN, On, Tells, WALK}
+use Rattle.step_rules.specs.Kinds.Backup.{Looks, MayExchange}
 use Rattle.step_rules.specs.Kinds.Claiming.{Rechecks}
-use Rattle.step_rules.specs.Layout.{nodes}
-use Rattle.step_rules.specs.Plays.{Mine}
-use Rattle.step_rules.specs.SeatData.{IsScan, IsTied, NoneAnnounced, claim_words, holds_record, room_of}
+use Rattle.step_rules.specs.Kinds.Walking.{WalkRechecks}
+use Rattle.step_rules.specs.Lawful.{held_by}
+use Rattle.step_rules.specs.Layout.{cells, nodes}
+use Rattle.step_rules.specs.SeatData.{IsFresh, IsScan, IsTied, NoneAnnounced, SeatData, claim_words, holds_record, room_of}
 use Rattle.step_rules.specs.Sound.{Sound}
-use Rattle.step_rules.specs.Views.{announced, announced_view, claim_of, cleared_view, loaded_view, number, silent, standing, stood_view, stored_view, without, words_in}
+use Rattle.step_rules.specs.Views.{announced, announced_view, claim_of, claimed_view, cleared_view, loaded_view, looked_view, number, silent, standing, stood_view, stored_view, walked_claim}
+use Rattle.step_rules.specs.Views.{walked_view}
 use Rattle.step_rules.specs.World.{has, nodes_of}
 use Rattle.step_rules.specs.declared.layout.TheConstants.{CLAIMS}
 use Rattle.step_rules.specs.declared.plan.Plan.{Plan}
+use Rattle.step_rules.specs.declared.seat.Seat.TheInside.{Inside}
 use Rattle.step_rules.specs.declared.view.Claim.{Claim}
-use Rattle.step_rules.specs.declared.view.Held.{Held}
 use Rattle.step_rules.specs.declared.view.Kind.{Kind}
 use Rattle.step_rules.specs.declared.view.Kind.TheVariants.{Recheck}
 use Rattle.step_rules.specs.declared.view.Scan.{Scan}
@@ -36,62 +45,18 @@ use Rattle.step_rules.specs.declared.view.View.{View}
 
 -- the share of the numbers held is no more than that of all
 pub within_room : (first : Bool) (v : View) → Sound v → length v.own + length v.retired ≤ room_of first v
-within_room false v sound = let s = sound.stock in omega arith
-within_room true v sound = let s = sound.stock in
-    let m = mul-le-mul_left v.plan.share (at_most_below v.numbers v.plan.seats sound.once sound.below) in omega arith
+within_room false v sound = stock_within sound.stock
+within_room true v sound =
+    let s = stock_within sound.stock in
+    let l = at_most_below v.numbers v.plan.seats sound.once sound.below in
+    let m = mul-le-mul_left v.plan.share l in let r = mul-le-mul_left v.plan.removes l in omega arith
 
 -- how many nodes a seat can have
-pub few : (v : View) → Sound v → length v.own + length v.retired ≤ 268435456
-few v sound = let s = sound.stock in let l = at_most_below v.numbers v.plan.seats sound.once sound.below in let p = sound.plan in let q = p.seats in let r = p.share in
-    let m : v.plan.share * length v.numbers ≤ 4194304 * 64 = mul-le v.plan.share (length v.numbers) 4194304 64 (omega arith) (omega arith) in omega arith
-
--- the view of a step, with the lists and the claim words as they are then
-module _ {me me' : Mine} {count : ℕ} {first fresh holds : Bool} {free holding words : List ℕ} {a b c : ℕ} (t : IsTied me count first fresh holds free holding words a b c)
-    (slots : me'.1 ≡ me.1) (sound : Sound me'.0) (plan : me'.0.plan ≡ me.0.plan) (numbers : me'.0.numbers ≡ me.0.numbers) where
-  pub tied_step : (holds' : Bool) (free' holding' words' : List ℕ) → holds' ≡ holds_record me'.0 → words' ≡ claim_words me'.0 → NoneAnnounced free' me'.0
-      → ((n : ℕ) → times n free' + times n holding' ≡ times n (nodes_of me'.0.own)) → length free' + length holding' ≡ length me'.0.own → IsTied me' count first false holds' free' holding' words' a b c
-  tied_step holds' free' holding' words' holds_it claims own_free lists long =
-      let room : room_of first me'.0 ≡ room_of first me.0 = ap (λ p. p.share * cond first p.seats (length me'.0.numbers)) plan ∙ ap (λ (l : List ℕ). me.0.plan.share * cond first me.0.plan.seats (length l)) numbers in
-      let f = t.room_free in let h = t.room_holding in let r = t.room_retired in record {
-        slots = slots ∙ t.slots;
-        sound = sound;
-        numbers = t.numbers ∙ ap (length {A = ℕ}) (sym numbers);
-        holds = holds_it;
-        lists = lists;
-        long = long;
-        claims = claims;
-        own_free = own_free;
-        room_free = omega arith;
-        room_holding = omega arith;
-        room_retired = omega arith;
-        fresh = λ no. absurd (false≢true no);
-      }
-
-  -- the same where the own nodes and the lists stay
-  pub tied_still : (holds' : Bool) (words' : List ℕ) → holds' ≡ holds_record me'.0 → words' ≡ claim_words me'.0 → NoneAnnounced free me'.0 → nodes_of me'.0.own ≡ nodes_of me.0.own
-      → IsTied me' count first false holds' free holding words' a b c
-  tied_still holds' words' holds_it claims own_free own = tied_step holds' free holding words' holds_it claims own_free
-      (λ n. t.lists n ∙ ap (times n) (sym own))
-      (t.long ∙ (sym (length-nodes_of me.0.own) ∙ (ap (length {A = ℕ}) (sym own) ∙ length-nodes_of me'.0.own)))
-
--- other lists of the same nodes
-module _ {me : Mine} {count : ℕ} {first fresh holds : Bool} {free holding words : List ℕ} {a b c : ℕ} (t : IsTied me count first fresh holds free holding words a b c) where
-  pub tied_lists : (free' holding' : List ℕ) (a' b' : ℕ) → NoneAnnounced free' me.0 → ((n : ℕ) → times n free' + times n holding' ≡ times n free + times n holding)
-      → length free' + length holding' ≡ length free + length holding → a' ≡ a → b' ≡ b → (fresh ≡ true → ⊥) → IsTied me count first fresh holds free' holding' words a' b' c
-  tied_lists free' holding' a' b' own_free same long is_a is_b used = let f = t.room_free in let h = t.room_holding in record {
-    slots = t.slots;
-    sound = t.sound;
-    numbers = t.numbers;
-    holds = t.holds;
-    lists = λ n. same n ∙ t.lists n;
-    long = long ∙ t.long;
-    claims = t.claims;
-    own_free = own_free;
-    room_free = omega arith;
-    room_holding = omega arith;
-    room_retired = t.room_retired;
-    fresh = λ is. absurd (used is);
-  }
+pub few : (v : View) → Sound v → length v.own + length v.retired ≤ 335544320
+few v sound = let s = stock_within sound.stock in
+    let l = at_most_below v.numbers v.plan.seats sound.once sound.below in let p = sound.plan in let q = p.seats in let r = p.share in let d = p.removes in
+    let m : v.plan.share * length v.numbers ≤ 4194304 * 64 = mul-le v.plan.share (length v.numbers) 4194304 64 (omega arith) (omega arith) in
+    let n : v.plan.removes * length v.numbers ≤ 1048576 * 64 = mul-le v.plan.removes (length v.numbers) 1048576 64 (omega arith) (omega arith) in omega arith
 
 -- a node goes from one list to the other
 pub moved_times : (n : ℕ) (xs xs' ys ys' : List ℕ) → IsWithout n xs xs' → ys' ≡ ys ++ n ∷ [] → (m : ℕ) → times m xs' + times m ys' ≡ times m xs + times m ys
@@ -112,23 +77,22 @@ own_held n own free holding all there = has_times n own (omega (arith, times_has
 pub own_there : (n : ℕ) (v : View) → Sound v → has (nodes_of v.own) n ≡ true → n < nodes v.plan
 own_there n v sound own = let f = at_has v.own n own in subst (λ m. m < nodes v.plan) f.3 (sound.node f.0 f.1 f.2).there
 
--- what is announced
-pub announced_word : (c n : ℕ) (v : View) → (announced c n v).word ≡ n + 1
-announced_word c n v = ⊎_elim (λ e. ap (λ b. (cond b (standing n (words_in v.own n) 0 0) (silent (n + 1))).word) e) (λ e. ap (λ b. (cond b (standing n (words_in v.own n) 0 0) (silent (n + 1))).word) e) (cases_Bool (eqb c 2))
-
 -- no free node is announced: by the same claims, or where one claim is another now
 pub own_free_still : (free : List ℕ) (v w : View) → NoneAnnounced free v → w.claims ≡ v.claims → NoneAnnounced free w
 own_free_still free v w none same = subst (λ (l : List Claim). (n : ℕ) → has free n ≡ true → (y : Claim) → get_elem? l OWN ≡ some y → ¬ On y n) (sym same) none
 
-own_free_set : (free : List ℕ) (v w : View) (c : ℕ) (x : Claim) → NoneAnnounced free v → w.claims ≡ set v.claims c x → ((n : ℕ) → OWN ≡ c → has free n ≡ true → ¬ On x n) → NoneAnnounced free w
+own_free_set : (free : List ℕ) (v w : View) (c : ℕ) (x : Claim) → NoneAnnounced free v → w.claims ≡ set v.claims c x → ((n : ℕ) → OWN ≡ c → has free n ≡ true → ¬ On x n)
+    → NoneAnnounced free w
 own_free_set free v w c x none is apart n h y at on = ⊎_elim
     (λ (q : (OWN ≡ c) × (x ≡ y)). apart n q.0 h (subst (λ z. On z n) (sym q.1) on))
     (λ (q : (OWN ≢ c) × (get_elem? v.claims OWN ≡ some y)). none n h y q.1 on)
     (at_set v.claims c OWN x y (subst (λ l. get_elem? l OWN ≡ some y) is at))
 
 -- a scan that a step doesn't touch; nodes that are retired meanwhile come after the old ones
-pub scan_stays : (v w : View) (more : List ℕ) (next old : ℕ) (found : List ℕ) (d : ℕ) → IsScan v next old found d → w.plan ≡ v.plan → w.retired ≡ v.retired ++ more → w.scan ≡ v.scan → IsScan w next old found d
-scan_stays v w more next old found d s plan retired scan = let within = s.old_within in record {
+pub scan_stays : {v : View} {next old : ℕ} {found : List ℕ} {d : ℕ} (w : View) (more : List ℕ) → IsScan v next old found d → w.plan ≡ v.plan → w.retired ≡ v.retired ++ more
+    → w.scan ≡ v.scan
+    → IsScan w next old found d
+scan_stays {v = v} {old = old} {d = d} w more s plan retired scan = let within = s.old_within in record {
   next_is = s.next_is ∙ ap (λ z. z.next) (sym scan);
   old_is = ap (λ (z : Scan). z.old) scan ∙ (s.old_is ∙ (sym (take-append-le old v.retired more within) ∙ ap (take old) (sym retired)));
   old_within = let l = ap (length {A = ℕ}) retired in omega (arith, length-append v.retired more);
@@ -142,120 +106,251 @@ pub least_below : (v : View) (p : Plan) (least : ℕ) → Sound v → p ≡ v.pl
 least_below v p least sound plan is = subst (λ (z : ℕ × Plan). z.0 < z.1.seats) (λ i. (sym is i, sym plan i)) (sound.below (number v) (has_first v.numbers sound.some_number))
 
 -- the register of an exchange is there, and so is the node that falls out
-pub exchange_there : (k x n : ℕ) (call : Call) (v : View) → Sound v → MayExchange k x n call v → (k < v.plan.registers) × (x / 2 < nodes v.plan)
+pub exchange_there : (k x n : ℕ) (call : Call) (v : View) → Sound v → MayExchange k x n call v → (k < cells v.plan) × (x / 2 < nodes v.plan)
 exchange_there k x n call v sound may = let told = sound.claims.told BACK (x / 2) may.back may.claimed (inl refl) may.stands in
-    (subst (λ m. m < v.plan.registers) may.cell told.cell, told.there)
+    (subst (λ m. m < cells v.plan) may.cell told.cell, (sound.claims.there BACK (x / 2) may.back may.claimed may.stands).0)
 
--- all that is said of a seat's own numbers and lists
-abbrev pub IsWhole : Mine → ℕ → ℕ → Bool → Bool → Bool → ℕ → ℕ → List ℕ → List ℕ → List ℕ → List ℕ → ℕ → ℕ → List ℕ → ℕ → ℕ → ℕ → ℕ → Type 0
-IsWhole me least count first fresh holds changes removes free holding retired words next old found a b c d =
-    IsTied me count first fresh holds free holding words a b c × (least ≡ number me.0) × (changes ≡ me.0.changes) × (removes ≡ me.0.removes) × (retired ≡ me.0.retired) × IsScan me.0 next old found d
+-- what ties the fields of a seat to its view, as its invariant says it, where its inner seat is this
+abbrev pub TiesAt : Inside → Me Call View → Type 0
+TiesAt s me = IsTied me s.numbers s.first s.fresh s.holds_record s.free.items s.holding.items s.claims (vec_capacity s.free) (vec_capacity s.holding) (vec_capacity s.retired)
 
--- what a step that is no change and no scan leaves
-pub record StaysPut (v w : View) : Type 0 where
-  pub plan : w.plan ≡ v.plan
-  pub numbers : w.numbers ≡ v.numbers
-  pub own : nodes_of w.own ≡ nodes_of v.own
-  pub changes : w.changes ≡ v.changes
-  pub removes : w.removes ≡ v.removes
-  pub retired : w.retired ≡ v.retired
-  pub scan : w.scan ≡ v.scan
+abbrev pub WholeAt : Inside → Me Call View → Type 0
+WholeAt s me = TiesAt s me × (s.least ≡ number me.0) × (s.changes ≡ me.0.changes) × (s.removes ≡ me.0.removes) ×
+    (s.retired.items ≡ me.0.retired) × IsScan me.0 s.scan_next s.scan_old s.scan_found.items (vec_capacity s.scan_found)
 
-module _ {me me' : Mine} {least count : ℕ} {first fresh holds : Bool} {changes removes : ℕ} {free holding retired words : List ℕ} {next old : ℕ} {found : List ℕ} {a b c d : ℕ}
-    (whole : IsWhole me least count first fresh holds changes removes free holding retired words next old found a b c d) (slots : me'.1 ≡ me.1) (sound : Sound me'.0) where
-  whole_still : (holds' : Bool) (words' : List ℕ) → StaysPut me.0 me'.0 → holds' ≡ holds_record me'.0 → words' ≡ claim_words me'.0 → NoneAnnounced free me'.0
-      → IsWhole me' least count first false holds' changes removes free holding retired words' next old found a b c d
-  whole_still holds' words' stays is claims own_free = (
-    tied_still whole.0 slots sound stays.plan stays.numbers holds' words' is claims own_free stays.own,
-    whole.1 ∙ ap (λ l. get_or l 0 0) (sym stays.numbers),
-    whole.2 ∙ sym stays.changes,
-    whole.3 ∙ sym stays.removes,
-    whole.4 ∙ sym stays.retired,
-    scan_stays me.0 me'.0 [] next old found d whole.5 stays.plan (stays.retired ∙ sym (append-nil me.0.retired)) stays.scan,
-  )
+abbrev pub Ties : Inside → Type 0
+Ties s = TiesAt s s.inner.me
 
-  -- where only steps are counted, or more is seen
-  pub whole_stored : (n j x : ℕ) → me'.0 ≡ stored_view n j x me.0 → IsWhole me' least count first false holds changes removes free holding retired words next old found a b c d
-  whole_stored n j x after = whole_still holds words
-      (subst (λ (w : View). StaysPut me.0 w) (sym after) (record { plan = refl; numbers = refl; own = stored_nodes n j x me.0.own; changes = refl; removes = refl; retired = refl; scan = refl }))
-      (whole.0.holds ∙ ap holds_record (sym after))
-      (whole.0.claims ∙ ap claim_words (sym after))
-      (own_free_still free me.0 me'.0 whole.0.own_free (ap (λ (w : View). w.claims) after))
+abbrev pub IsWhole : Inside → Type 0
+IsWhole s = WholeAt s s.inner.me
 
-  pub whole_loaded : (n j x : ℕ) → me'.0 ≡ loaded_view n j x me.0 → IsWhole me' least count first false holds changes removes free holding retired words next old found a b c d
-  whole_loaded n j x after = whole_still holds words
-      (subst (λ (w : View). StaysPut me.0 w) (sym after) (record { plan = refl; numbers = refl; own = refl; changes = refl; removes = refl; retired = refl; scan = refl }))
-      (whole.0.holds ∙ ap holds_record (sym after))
-      (whole.0.claims ∙ ap claim_words (sym after))
-      (own_free_still free me.0 me'.0 whole.0.own_free (ap (λ (w : View). w.claims) after))
+-- a seat as contracts see it
+abbrev pub data_of : Inside → SeatData
+data_of s = record { object = s.inner.table_id; view = s.inner.me.0; free = s.free.items; holding = s.holding.items; first = s.first; fresh = s.fresh }
 
-  pub whole_looked : (kind : Kind) (k x : ℕ) → Looks kind k x me.0 me'.0 → IsWhole me' least count first false holds changes removes free holding retired words next old found a b c d
-  whole_looked kind k x looks = whole_still holds words
-      (subst (λ (w : View). StaysPut me.0 w) (sym looks.after) (record { plan = refl; numbers = refl; own = refl; changes = refl; removes = refl; retired = refl; scan = refl }))
-      (whole.0.holds ∙ sym (looked_holds kind k x me.0 me'.0 whole.0.sound.lawful looks))
-      (whole.0.claims ∙ ap claim_words (sym looks.after))
-      (own_free_still free me.0 me'.0 whole.0.own_free (ap (λ (w : View). w.claims) looks.after))
+-- a step of the seat, after which its lists are these
+pub record Relists (s : Inside) (inner : Seat Call View) (free holding retired : Vec ℕ Global) : Type 0 where
+  pub slots : inner.me.1 ≡ s.inner.me.1
+  pub sound : Sound inner.me.0
+  pub plan : inner.me.0.plan ≡ s.inner.me.0.plan
+  pub numbers : inner.me.0.numbers ≡ s.inner.me.0.numbers
+  pub own_free : NoneAnnounced free.items inner.me.0
+  pub lists : (n : ℕ) → times n free.items + times n holding.items ≡ times n (nodes_of inner.me.0.own)
+  pub long : length free.items + length holding.items ≡ length inner.me.0.own
+  pub room_free : vec_capacity free ≡ vec_capacity s.free
+  pub room_holding : vec_capacity holding ≡ vec_capacity s.holding
+  pub room_retired : vec_capacity retired ≡ vec_capacity s.retired
+
+pub tied_step : (s : Inside) (inner : Seat Call View) (free holding retired : Vec ℕ Global) (holds : Bool) (claims : List ℕ) → Ties s → Relists s inner free holding retired
+    → holds ≡ holds_record inner.me.0 → claims ≡ claim_words inner.me.0
+    → Ties (record s { inner = inner; fresh = false; holds_record = holds; free = free; holding = holding; retired = retired; claims = claims })
+tied_step s inner free holding retired holds claims t r is words =
+    let n = s.first in
+    let room : room_of n inner.me.0 ≡ room_of n s.inner.me.0 =
+    (λ i. (r.plan i).share * cond n (r.plan i).seats (length (r.numbers i)) + (r.plan i).removes * cond n (r.plan i).seats (length (r.numbers i))) in
+    let f = t.room_free in let h = t.room_holding in let g = t.room_retired in
+    let f' = r.room_free in let h' = r.room_holding in let g' = r.room_retired in record {
+      slots = r.slots ∙ t.slots;
+      sound = r.sound;
+      numbers = t.numbers ∙ ap (length {A = ℕ}) (sym r.numbers);
+      holds = is;
+      lists = r.lists;
+      long = r.long;
+      claims = words;
+      own_free = r.own_free;
+      room_free = omega arith;
+      room_holding = omega arith;
+      room_retired = omega arith;
+      fresh = λ no. absurd (false≢true no);
+    }
+
+-- other lists of the same nodes
+pub tied_lists : (s : Inside) (free holding : Vec ℕ Global) → Ties s → NoneAnnounced free.items s.inner.me.0
+    → ((n : ℕ) → times n free.items + times n holding.items ≡ times n s.free.items + times n s.holding.items)
+    → length free.items + length holding.items ≡ length s.free.items + length s.holding.items → vec_capacity free ≡ vec_capacity s.free → vec_capacity holding ≡ vec_capacity s.holding
+    → (s.fresh ≡ true → ⊥)
+    → Ties (record s { free = free; holding = holding })
+tied_lists s free holding t own_free same long is_a is_b used = let f = t.room_free in let h = t.room_holding in record {
+  slots = t.slots;
+  sound = t.sound;
+  numbers = t.numbers;
+  holds = t.holds;
+  lists = λ n. same n ∙ t.lists n;
+  long = long ∙ t.long;
+  claims = t.claims;
+  own_free = own_free;
+  room_free = omega arith;
+  room_holding = omega arith;
+  room_retired = t.room_retired;
+  fresh = λ is. absurd (used is);
+}
+
+-- the parts of a view that a step leaves which moves no node and is no change
+pub record Lasting : Type 0 where
+  pub plan : Plan
+  pub numbers : List ℕ
+  pub own : List ℕ
+  pub changes : ℕ
+  pub removes : ℕ
+  pub retired : List ℕ
+
+abbrev pub lasting : View → Lasting
+lasting v = record { plan = v.plan; numbers = v.numbers; own = nodes_of v.own; changes = v.changes; removes = v.removes; retired = v.retired }
+
+-- a step of the seat s, after which its inner seat is this
+module _ (s : Inside) (whole : IsWhole s) (inner : Seat Call View) (slots : inner.me.1 ≡ s.inner.me.1) (sound : Sound inner.me.0) where
+  abbrev v : View
+  v = s.inner.me.0
+
+  -- its view is w, which has the same nodes: all but the scan
+  pub held_to : (w : View) (holds : Bool) (claims : List ℕ) → inner.me.0 ≡ w → lasting w ≡ lasting v → holds ≡ holds_record w → claims ≡ claim_words w
+      → NoneAnnounced s.free.items w
+      → Ties (record s { inner = inner; fresh = false; holds_record = holds; claims = claims }) × (s.least ≡ number inner.me.0)
+      × (s.changes ≡ inner.me.0.changes) × (s.removes ≡ inner.me.0.removes) × (s.retired.items ≡ inner.me.0.retired)
+  held_to w holds claims after same is words own_free =
+      let t = whole.0 in
+      let stays : lasting inner.me.0 ≡ lasting v = ap lasting after ∙ same in (
+        tied_step s inner s.free s.holding s.retired holds claims t (record {
+          slots = slots;
+          sound = sound;
+          plan = ap (λ (l : Lasting). l.plan) stays;
+          numbers = ap (λ (l : Lasting). l.numbers) stays;
+          own_free = subst (NoneAnnounced s.free.items) (sym after) own_free;
+          lists = λ n. t.lists n ∙ ap (λ (l : Lasting). times n l.own) (sym stays);
+          long = t.long ∙ (sym (length-nodes_of v.own) ∙ (ap (λ (l : Lasting). length l.own) (sym stays) ∙ length-nodes_of inner.me.0.own));
+          room_free = refl;
+          room_holding = refl;
+          room_retired = refl;
+        }) (is ∙ ap holds_record (sym after)) (words ∙ ap claim_words (sym after)),
+        whole.1 ∙ ap (λ (l : Lasting). get_or l.numbers 0 0) (sym stays),
+        whole.2 ∙ ap (λ (l : Lasting). l.changes) (sym stays),
+        whole.3 ∙ ap (λ (l : Lasting). l.removes) (sym stays),
+        whole.4 ∙ ap (λ (l : Lasting). l.retired) (sym stays),
+      )
+
+  -- and the scan
+  stepped_to : (w : View) (holds : Bool) (claims : List ℕ) → inner.me.0 ≡ w → lasting w ≡ lasting v → w.scan ≡ v.scan → holds ≡ holds_record w → claims ≡ claim_words w
+      → NoneAnnounced s.free.items w
+      → IsWhole (record s { inner = inner; fresh = false; holds_record = holds; claims = claims })
+  stepped_to w holds claims after same scan is words own_free =
+      let h = held_to w holds claims after same is words own_free in
+      let stays : lasting inner.me.0 ≡ lasting v = ap lasting after ∙ same in (
+        h.0,
+        h.1,
+        h.2,
+        h.3,
+        h.4,
+        scan_stays inner.me.0 [] whole.5 (ap (λ (l : Lasting). l.plan) stays)
+            (ap (λ (l : Lasting). l.retired) stays ∙ sym (append-nil v.retired))
+            (ap (λ (u : View). u.scan) after ∙ scan),
+      )
+
+  -- the claims are the same, and whether a record is held
+  stepped_so : (w : View) → inner.me.0 ≡ w → lasting w ≡ lasting v → w.scan ≡ v.scan → holds_record w ≡ holds_record v → w.claims ≡ v.claims
+      → IsWhole (record s { inner = inner; fresh = false })
+  stepped_so w after same scan record_same claims_same = stepped_to w s.holds_record s.claims after same scan (whole.0.holds ∙ sym record_same)
+      (whole.0.claims ∙ ap (map (λ (x : Claim). x.word)) (sym claims_same))
+      (own_free_still s.free.items v w whole.0.own_free claims_same)
+
+  pub whole_stored : (n j x : ℕ) → inner.me.0 ≡ stored_view n j x v → IsWhole (record s { inner = inner; fresh = false })
+  whole_stored n j x after = stepped_so (stored_view n j x v) after (λ i. record (lasting v) { own = stored_nodes n j x v.own i }) refl refl refl
+
+  pub whole_loaded : (n j x : ℕ) → inner.me.0 ≡ loaded_view n j x v → IsWhole (record s { inner = inner; fresh = false })
+  whole_loaded n j x after = stepped_so (loaded_view n j x v) after refl refl refl refl
+
+  -- more of the history is seen
+  pub whole_looked : (kind : Kind) (k x : ℕ) → Looks kind k x v inner.me.0 → IsWhole (record s { inner = inner; fresh = false })
+  whole_looked kind k x looks = stepped_so (looked_view kind k x looks.log v) looks.after refl refl (ap is_some (held_longer v looks.rest looks.log whole.0.sound.lawful looks.seen)) refl
 
   -- a claim that is announced or cleared
-  pub whole_announced : (e n x : ℕ) → x ≡ n + 1 → (e ≡ OWN → has holding n ≡ true) → me'.0 ≡ announced_view e n me.0
-      → IsWhole me' least count first false holds changes removes free holding retired (set words e x) next old found a b c d
-  whole_announced e n x is held after = whole_still holds (set words e x)
-      (subst (λ (w : View). StaysPut me.0 w) (sym after) (record { plan = refl; numbers = refl; own = refl; changes = refl; removes = refl; retired = refl; scan = refl }))
-      (whole.0.holds ∙ ap holds_record (sym after))
-      (ap (λ l. set l e x) whole.0.claims ∙ (ap (set (claim_words me.0) e) (is ∙ sym (announced_word e n me.0))
-      ∙ (sym (map-set (λ (z : Claim). z.word) me.0.claims e (announced e n me.0)) ∙ ap claim_words (sym after))))
-      (own_free_set free me.0 me'.0 e (announced e n me.0) whole.0.own_free (ap (λ (w : View). w.claims) after) (λ m own h on.
-      let same : n ≡ m = omega (arith, announced_word e n me.0, on.at) in
-      one_list m (nodes_of me.0.own) free holding (whole.0.lists m) whole.0.sound.own_once h (subst (λ z. has holding z ≡ true) same (held (sym own)))))
+  pub whole_announced : (c n x : ℕ) → x ≡ n + 1 → (c ≡ OWN → has s.holding.items n ≡ true) → inner.me.0 ≡ announced_view c n v
+      → IsWhole (record s { inner = inner; fresh = false; claims = set s.claims c x })
+  whole_announced c n x is held after = stepped_to (announced_view c n v) s.holds_record (set s.claims c x) after refl refl whole.0.holds
+      ((λ i. set (whole.0.claims i) c ((is ∙ sym (announced_word c n v)) i)) ∙ sym (map-set (λ (z : Claim). z.word) v.claims c (announced c n v)))
+      (own_free_set s.free.items v (announced_view c n v) c (announced c n v) whole.0.own_free refl (λ m own h on.
+      let same : n ≡ m = omega (arith, announced_word c n v, on.at) in
+      one_list m (nodes_of v.own) s.free.items s.holding.items (whole.0.lists m) whole.0.sound.own_once h (subst (λ z. has s.holding.items z ≡ true) same (held (sym own)))))
 
-  pub whole_cleared : (e : ℕ) → me'.0 ≡ cleared_view e me.0 → IsWhole me' least count first false holds changes removes free holding retired (set words e 0) next old found a b c d
-  whole_cleared e after = whole_still holds (set words e 0)
-      (subst (λ (w : View). StaysPut me.0 w) (sym after) (record { plan = refl; numbers = refl; own = refl; changes = refl; removes = refl; retired = refl; scan = refl }))
-      (whole.0.holds ∙ ap holds_record (sym after))
-      (ap (λ l. set l e 0) whole.0.claims ∙ (sym (map-set (λ (x : Claim). x.word) me.0.claims e (silent 0)) ∙ ap claim_words (sym after)))
-      (own_free_set free me.0 me'.0 e (silent 0) whole.0.own_free (ap (λ (w : View). w.claims) after) (λ m own h on. absurd (false≢true on.on)))
+  pub whole_cleared : (c : ℕ) → inner.me.0 ≡ cleared_view c v → IsWhole (record s { inner = inner; fresh = false; claims = set s.claims c 0 })
+  whole_cleared c after = stepped_to (cleared_view c v) s.holds_record (set s.claims c 0) after refl refl whole.0.holds
+      (ap (λ l. set l c 0) whole.0.claims ∙ sym (map-set (λ (x : Claim). x.word) v.claims c (silent 0)))
+      (own_free_set s.free.items v (cleared_view c v) c (silent 0) whole.0.own_free refl (λ m own h on. absurd (false≢true on.on)))
 
-  -- a recheck: the claim's word stays
-  pub whole_rechecked : (e k x y : ℕ) → Tells e → (claim_of e me.0).word ≡ x / 2 + 1 → Rechecks e k x y me.0 me'.0
-      → IsWhole me' least count first false holds changes removes free holding retired words next old found a b c d
-  whole_rechecked e k x y tells named rechecks = ⊎_elim
-      (λ same. let r = rechecks.same same in whole_still holds words
-      (subst (λ (w : View). StaysPut me.0 w) (sym r.after) (record { plan = refl; numbers = refl; own = refl; changes = refl; removes = refl; retired = refl; scan = refl }))
-      (whole.0.holds ∙ sym (claimed_holds e k x y me.0 me'.0 whole.0.sound.lawful r))
-      (whole.0.claims ∙ (sym (map-set_same (λ (z : Claim). z.word) me.0.claims e (standing (y / 2) r.words k (length r.log)) (silent 0) (ap (λ m. m + 1) same ∙ sym named)) ∙ ap claim_words (sym r.after)))
-      (own_free_set free me.0 me'.0 e (standing (y / 2) r.words k (length r.log)) whole.0.own_free (ap (λ (w : View). w.claims) r.after) (λ m own h on. ⊎_elim (λ q. absurd (omega arith)) (λ q. absurd (omega arith)) tells)))
-      (λ other. whole_looked (Recheck e k x) k y (rechecks.other other))
+  -- a claim other than Own becomes x, and its word stays
+  whole_claimed : (c : ℕ) (x : Claim) (w : View) (rest log : List Entry) → inner.me.0 ≡ w → lasting w ≡ lasting v → w.scan ≡ v.scan → (claim_of c v).word ≡ x.word → c ≢ OWN
+      → log ≡ v.seen ++ rest → holds_record w ≡ is_some (held_by log (number v) v.stands)
+      → w.claims ≡ set v.claims c x → IsWhole (record s { inner = inner; fresh = false })
+  whole_claimed c x w rest log after same scan named apart seen record_then claims_then = stepped_to w s.holds_record s.claims after same scan
+      (whole.0.holds ∙ sym (record_then ∙ ap is_some (held_longer v rest log whole.0.sound.lawful seen)))
+      (whole.0.claims ∙ (sym (map-set_same (λ (z : Claim). z.word) v.claims c x (silent 0) (sym named)) ∙ ap (map (λ (z : Claim). z.word)) (sym claims_then)))
+      (own_free_set s.free.items v w c x whole.0.own_free claims_then (λ m own h on. absurd (apart (sym own))))
+
+  -- a recheck
+  pub whole_rechecked : (c k x y : ℕ) → Tells c → (claim_of c v).word ≡ x / 2 + 1 → Rechecks c k x y v inner.me.0 → IsWhole (record s { inner = inner; fresh = false })
+  whole_rechecked c k x y tells named rechecks = ⊎_elim
+      (λ same. let r = rechecks.same same in
+      whole_claimed c (standing (y / 2) r.words k r.pages (length r.log)) (claimed_view c k x y r.words r.pages r.log v) r.rest r.log r.after refl refl (named ∙ ap (λ m. m + 1) (sym same))
+      (tells_else c tells) r.seen refl refl)
+      (λ other. whole_looked (Recheck c k x) k y (rechecks.other other))
       (cases_eq (y / 2) (x / 2))
 
-  -- a stand
-  pub whole_stood : (q : ℕ) (call : Call) (reply : Reply) (holds' : Bool) → me'.0 ≡ stood_view q call reply me.0 → holds' ≡ holding_after holds call
-      → IsWhole me' least count first false holds' changes removes free holding retired words next old found a b c d
-  whole_stood q call reply holds' after is = whole_still holds' words
-      (subst (λ (w : View). StaysPut me.0 w) (sym after) (record { plan = refl; numbers = refl; own = refl; changes = refl; removes = refl; retired = refl; scan = refl }))
-      (is ∙ (ap (λ h. holding_after h call) whole.0.holds ∙ sym (stood_holds q call reply me.0 me'.0 after)))
-      (whole.0.claims ∙ ap claim_words (sym after))
-      (own_free_still free me.0 me'.0 whole.0.own_free (ap (λ (w : View). w.claims) after))
+  pub whole_walked : (k y x n : ℕ) → (claim_of WALK v).word ≡ n + 1 → WalkRechecks k y x n v inner.me.0 → IsWhole (record s { inner = inner; fresh = false })
+  whole_walked k y x n named rechecks = ⊎_elim
+      (λ same. let r = rechecks.same same in
+      whole_claimed WALK (walked_claim n k (length r.log) v) (walked_view n k y x r.log v) r.rest r.log r.after refl refl named (λ e. omega arith) r.seen refl refl)
+      (λ other. whole_looked (Recheck WALK k y) k x (rechecks.other other))
+      (cases_eq (x / 2) (y / 2))
 
-  -- an exchange that won
-  pub whole_won : (k x n : ℕ) (call : Call) (holding' retired' : List ℕ) (b' c' : ℕ) → MayExchange k x n call me.0 → Wins k x n call me.0 me'.0 → IsWithout n holding holding'
-      → retired' ≡ retired ++ x / 2 ∷ [] → b' ≡ b → c' ≡ c → IsWhole me' least count first false holds (changes - 1) removes free holding' retired' words next old found a b' c' d
-  whole_won k x n call holding' retired' b' c' may wins out more is_b is_c =
-      let v = me.0 in
-      let t = whole.0 in
-      let once = t.sound.own_once in
-      let plan : me'.0.plan ≡ v.plan = ap (λ (w : View). w.plan) wins.after in
-      let left : me'.0.own ≡ without n v.own = ap (λ (w : View). w.own) wins.after in
-      let gone : v.retired ++ x / 2 ∷ [] ≡ me'.0.retired = ap (λ (w : View). w.retired) (sym wins.after) in (
-        subst (λ (z : ℕ × ℕ). IsTied me' count first false holds free holding' words a z.0 z.1) (λ i. (sym is_b i, sym is_c i))
-            (tied_step t slots sound plan (ap (λ (w : View). w.numbers) wins.after) holds free holding' words
-            (t.holds ∙ sym (won_holds k x n (state_at v.seen may.back.at) call v me'.0 t.sound.lawful may.changes wins))
-            (t.claims ∙ ap claim_words (sym wins.after))
-            (own_free_still free v me'.0 t.own_free (ap (λ (w : View). w.claims) wins.after))
-            (λ m. let l = t.lists m in let o = out.times m in let e = ap (λ y. times m (nodes_of y)) left in omega (arith, times-without m n v.own once may.own))
-            (let l = t.long in let o = out.length in let e = ap (length {A = Held}) left in omega (arith, length-without n v.own once may.own))),
-        whole.1 ∙ ap (λ (w : View). number w) (sym wins.after),
-        ap (λ m. m - 1) whole.2 ∙ ap (λ (w : View). w.changes) (sym wins.after),
-        whole.3 ∙ ap (λ (w : View). w.removes) (sym wins.after),
-        more ∙ (ap (λ l. l ++ x / 2 ∷ []) whole.4 ∙ gone),
-        scan_stays v me'.0 (x / 2 ∷ []) next old found d whole.5 plan (sym gone) (ap (λ (w : View). w.scan) wins.after),
-      )
+  -- a stand
+  pub whole_stood : (q : ℕ) (call : Call) (reply : Reply) (holds : Bool) → inner.me.0 ≡ stood_view q call reply v → holds ≡ holding_after s.holds_record call
+      → IsWhole (record s { inner = inner; fresh = false; holds_record = holds })
+  whole_stood q call reply holds after is = stepped_to (stood_view q call reply v) holds s.claims after refl refl
+      (is ∙ (ap (λ h. holding_after h call) whole.0.holds ∙ sym (stood_holds q call reply v))) whole.0.claims whole.0.own_free
+
+-- a seat as it is made, where it knows v and made no step
+pub record IsNew (s : Inside) (v : View) : Type 0 where
+  pub fresh : IsFresh v s.free.items s.holding.items
+  pub numbers : s.numbers ≡ length v.numbers
+  pub least : s.least ≡ number v
+  pub no_record : s.holds_record ≡ false
+  pub changes : s.changes ≡ v.changes
+  pub removes : s.removes ≡ v.removes
+  pub retired : s.retired.items ≡ []
+  pub claims : s.claims ≡ replicate CLAIMS 0
+  pub scan_next : s.scan_next ≡ 0
+  pub scan_old : s.scan_old ≡ 0
+  pub scan_found : s.scan_found.items ≡ []
+  pub room_free : room_of s.first v ≤ vec_capacity s.free
+  pub room_holding : room_of s.first v ≤ vec_capacity s.holding
+  pub room_retired : room_of s.first v ≤ vec_capacity s.retired
+  pub room_found : CLAIMS * v.plan.seats ≤ vec_capacity s.scan_found
+
+pub new_whole : (s : Inside) (v : View) → s.inner.me ≡ (v, []) → Sound s.inner.me.0 → IsNew s v → IsWhole s
+new_whole s v is sound new = let f = new.fresh in subst (WholeAt s) (sym is) (
+  record {
+    slots = refl;
+    sound = subst (λ (e : Me Call View). Sound e.0) is sound;
+    numbers = new.numbers;
+    holds = new.no_record ∙ ap (λ l. is_some (held_by v.seen (number v) l)) (sym f.stands);
+    lists = λ n. omega (arith, ap (times n) f.free, ap (times n) f.holding);
+    long = omega (arith, ap (length {A = ℕ}) f.free, ap (length {A = ℕ}) f.holding, length-nodes_of v.own);
+    claims = new.claims ∙ ap (map (λ (x : Claim). x.word)) (sym f.claims);
+    own_free = none_announced s.free.items v (subst Quiet (sym f.claims) no_claims_quiet);
+    room_free = new.room_free;
+    room_holding = new.room_holding;
+    room_retired = new.room_retired;
+    fresh = λ _. f;
+  },
+  new.least,
+  new.changes,
+  new.removes,
+  new.retired ∙ sym f.retired,
+  record {
+    next_is = new.scan_next ∙ ap (λ (z : Scan). z.next) (sym f.scan);
+    old_is = ap (λ (z : Scan). z.old) f.scan ∙ ap (λ n. take n v.retired) (sym new.scan_old);
+    old_within = omega (arith, new.scan_old);
+    found_is = λ n. ap (λ l. has l n) new.scan_found ∙ ap (λ (z : Scan). has z.found n) (sym f.scan);
+    long = ap (length {A = ℕ}) new.scan_found ∙ ap (λ (z : Scan). length z.found) (sym f.scan);
+    room = new.room_found;
+  },
+)

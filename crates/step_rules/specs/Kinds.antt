@@ -3,3 +3,4 @@ pub mod Claiming
 pub mod Exchange
 pub mod Node
 pub mod Standing
+pub mod Walking

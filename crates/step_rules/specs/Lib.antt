@@ -9,7 +9,9 @@ pub mod Layout
 pub mod Line
 pub mod Looks
 pub mod Nodes
+pub mod Order
 pub mod Plays
+pub mod Records
 pub mod Rule
 pub mod Scans
 pub mod SeatData
@@ -17,6 +19,7 @@ pub mod Seats
 pub mod Sound
 pub mod Starts
 pub mod Steps
+pub mod Stock
 pub mod Stood
 pub mod Trail
 pub mod Views

@@ -1,9 +1,11 @@
 -- All callers' stands in one line, and the object of one thread called in that order.
 use Rattle.std.specs.Prelude.{◌≡◌, ℕ, ◌<◌, ◌==◌, ◌&&◌, not, zero, suc, List, [], ◌∷◌, ◌++◌, length, filter, ⊤, if◌then◌else◌}
+use Rattle.seat_history.specs.Change.{is_change}
 use Rattle.seat_history.specs.History.{state_at}
 use Rattle.seat_history.specs.Object.{Object, blank_object, object_after}
 use Rattle.seat_history.specs.declared.entry.Entry.{Entry}
 use Rattle.step_rules.specs.Lawful.{IsReply, entry_of, is_full}
+use Rattle.step_rules.specs.declared.plan.Plan.{Plan}
 use Rattle.step_rules.specs.declared.view.Stand.{Stand}
 
 -- a caller's stands
@@ -40,14 +42,19 @@ abbrev pub after_stands : Object → List Stand → Object
 after_stands object [] = object
 after_stands object (s ∷ r) = after_stands (after_stand object s) r
 
--- the object of one thread, called in this order, gives each its reply, and Full comes only where the call would change it
-abbrev pub Replays : ℕ → Object → List Stand → Type 0
-Replays seats object [] = ⊤
-Replays seats object (s ∷ r) = IsReply seats s.stock object.contents (object.held s.by) s.call s.reply × Replays seats (after_stand object s) r
+-- the calls that changed the object, with the stand's where it changes it
+abbrev pub log_after : List Entry → Object → Stand → List Entry
+log_after log object s = if is_change object.contents s.call && not (is_full s.reply) then log ++ entry_of s ∷ [] else log
+
+-- the object of one thread, called in this order, gives each its reply, and Full comes only where the call would change it; the log has the
+-- calls that changed it
+abbrev pub Replays : Plan → Object → List Entry → List Stand → Type 0
+Replays p object log [] = ⊤
+Replays p object log (s ∷ r) = IsReply p s.stock object.contents log (object.held s.by) s.call s.reply × Replays p (after_stand object s) (log_after log object s) r
 
 -- the line is one history of the object of one thread; it has each caller's stands, each once, in the caller's order, and leaves what the
 -- history leaves
-pub record InOneLine (seats : ℕ) (history : List Entry) (stands : List Stand) : Type 0 where
-  pub replays : Replays seats blank_object (line_of seats history stands)
-  pub order : (x : ℕ) → x < seats → stands_by x (line_of seats history stands) ≡ stands_by x stands
-  pub contents : (after_stands blank_object (line_of seats history stands)).contents ≡ state_at history (length history)
+pub record InOneLine (p : Plan) (history : List Entry) (stands : List Stand) : Type 0 where
+  pub replays : Replays p blank_object [] (line_of p.seats history stands)
+  pub order : (x : ℕ) → x < p.seats → stands_by x (line_of p.seats history stands) ≡ stands_by x stands
+  pub contents : (after_stands blank_object (line_of p.seats history stands)).contents ≡ state_at history (length history)

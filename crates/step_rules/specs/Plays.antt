@@ -3,12 +3,14 @@ use Rattle.std.specs.Prelude.{◌≡◌, ◌≢◌, ℕ, ◌+◌, ◌*◌, ◌<�
 use Rattle.atomic_table.specs.Table.{Me, Step}
 use Rattle.seat_history.specs.declared.call.Call.{Call}
 use Rattle.seat_history.specs.declared.reply.Reply.{Reply}
+use Rattle.step_rules.specs.Claims.{Tells, WALK}
 use Rattle.step_rules.specs.Kinds.Backup.{Looks, Wins}
 use Rattle.step_rules.specs.Kinds.Claiming.{FindsOwn, Frees, Rechecks}
 use Rattle.step_rules.specs.Kinds.Node.{Reads}
+use Rattle.step_rules.specs.Kinds.Walking.{WalkRechecks}
 use Rattle.step_rules.specs.Layout.{backup_at, claim_at, node_at}
 use Rattle.step_rules.specs.Sound.{Sound}
-use Rattle.step_rules.specs.Views.{announced_view, cleared_view, number, scanned_view, loaded_view, stood_view, stored_view}
+use Rattle.step_rules.specs.Views.{announced_view, claim_of, cleared_view, number, scanned_view, loaded_view, stood_view, stored_view}
 use Rattle.step_rules.specs.declared.layout.TheConstants.{CLAIMS, NODE_WIDTH}
 use Rattle.step_rules.specs.declared.view.Kind.TheVariants.{BackupLoad, BackupExchange}
 use Rattle.step_rules.specs.declared.view.View.{View}
@@ -45,17 +47,26 @@ announced st m x m' = Told m m' ((c n : ℕ) → st.word ≡ claim_at (number m.
 abbrev pub rechecked : ℕ → ℕ → Step Call → Mine → ℕ → Mine → Type 0
 rechecked c y st m x m' = Told m m' ((k : ℕ) → st.word ≡ backup_at m.0.plan k → Rechecks c k y x m.0 m'.0)
 
+-- RECHECK of Walk, which was announced for the node n of the chain that Back's node, that of the word y, heads
+abbrev pub walked : ℕ → ℕ → Step Call → Mine → ℕ → Mine → Type 0
+walked y n st m x m' = Told m m' ((k : ℕ) → st.word ≡ backup_at m.0.plan k → WalkRechecks k y x n m.0 m'.0)
+
+-- RECHECK of any of these claims
+abbrev pub rechecked_any : ℕ → ℕ → Step Call → Mine → ℕ → Mine → Type 0
+rechecked_any c y st m x m' = (Tells c → rechecked c y st m x m') × (c ≡ WALK → (n : ℕ) → (claim_of WALK m.0).word ≡ n + 1 → walked y n st m x m')
+
 -- CLAIM CLEAR
 abbrev pub cleared : Step Call → Mine → ℕ → Mine → Type 0
 cleared st m x m' = Told m m' ((c : ℕ) → st.word ≡ claim_at (number m.0) c → c < CLAIMS → m'.0 ≡ cleared_view c m.0)
 
 -- SCAN LOAD; the last one frees
 abbrev pub scanned : Step Call → Mine → ℕ → Mine → Type 0
-scanned st m x m' = Told m m' (FindsOwn st.word x m.0 × (suc st.word < CLAIMS * m.0.plan.seats → m'.0 ≡ scanned_view st.word x m.0) × (suc st.word ≡ CLAIMS * m.0.plan.seats → Frees st.word x m.0 m'.0))
+scanned st m x m' = Told m m'
+    (FindsOwn st.word x m.0 × (suc st.word < CLAIMS * m.0.plan.seats → m'.0 ≡ scanned_view st.word x m.0) × (suc st.word ≡ CLAIMS * m.0.plan.seats → Frees st.word x m.0 m'.0))
 
--- STAND
+-- STAND, a load of word 0
 abbrev pub stood : ℕ → Call → Reply → Step Call → Mine → ℕ → Mine → Type 0
-stood q call reply st m x m' = Told m m' (m'.0 ≡ stood_view q call reply m.0)
+stood q call reply st m x m' = Told m m' (st.word ≡ 0 → m'.0 ≡ stood_view q call reply m.0)
 
 -- a load that changes nothing
 abbrev pub settled : Step Call → Mine → ℕ → Mine → Type 0

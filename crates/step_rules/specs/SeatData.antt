@@ -1,15 +1,15 @@
 -- A seat and a shared object, as contracts see them.
-use Rattle.std.specs.Prelude.{◌≡◌, ℕ, ◌+◌, ◌*◌, ◌≤◌, Bool, true, false, List, [], ◌∷◌, ◌++◌, length, is_some, not, ◌&&◌, ◌==◌, map, replicate, take, if◌then◌else◌}
+use Rattle.std.specs.Prelude.{◌≡◌, ℕ, ◌+◌, ◌*◌, ◌≤◌, Bool, true, false, List, [], ◌∷◌, ◌++◌, length, Some, is_some, not, ◌&&◌, ◌==◌, map, replicate, take, if◌then◌else◌}
 use mathlib.Core.Option.{some}
 use lib.ListN.{get_elem?}
 use Rattle.atomic_table.specs.Seated.{TableId}
 use Rattle.atomic_table.specs.Table.{Me}
 use Rattle.seat_history.specs.declared.call.Call.{Call}
 use Rattle.step_rules.specs.Bags.{IsWithout, times}
-use Rattle.step_rules.specs.Claims.{OWN, On}
+use Rattle.step_rules.specs.Claims.{HOLD, OWN, On}
 use Rattle.step_rules.specs.Lawful.{held_by}
 use Rattle.step_rules.specs.Sound.{Sound}
-use Rattle.step_rules.specs.Views.{count_up, number, silent}
+use Rattle.step_rules.specs.Views.{claim_of, count_up, number, silent}
 use Rattle.step_rules.specs.World.{has, nodes_of}
 use Rattle.step_rules.specs.declared.layout.TheConstants.{CLAIMS}
 use Rattle.step_rules.specs.declared.plan.Plan.{Plan}
@@ -39,6 +39,13 @@ pub record IsOf (shared : ObjectData) (seat : SeatData) : Type 0 where
 -- whether a record is held under the least number
 abbrev pub holds_record : View → Bool
 holds_record v = is_some (held_by v.seen (number v) v.stands)
+
+-- the seat's Hold claim stands on the node of the record that it holds
+pub record IsHolding (words : List ℕ) (v : View) : Type 0 where
+  pub held : held_by v.seen (number v) v.stands ≡ Some words
+  pub node : ℕ
+  pub stands : On (claim_of HOLD v) node
+  pub image : (claim_of HOLD v).image ≡ words ++ 0 ∷ []
 
 abbrev pub is_empty : List ℕ → Bool
 is_empty [] = true
@@ -76,7 +83,7 @@ NoneAnnounced free v = (n : ℕ) → has free n ≡ true → (y : Claim) → get
 
 -- how many nodes each of a seat's lists has room for: the first seat's for those of all numbers
 abbrev pub room_of : Bool → View → ℕ
-room_of first v = v.plan.share * (if first then v.plan.seats else length v.numbers)
+room_of first v = v.plan.share * (if first then v.plan.seats else length v.numbers) + v.plan.removes * (if first then v.plan.seats else length v.numbers)
 
 -- what ties the seat's own numbers and lists to its view
 pub record IsTied (me : Me Call View) (count : ℕ) (first is_fresh holds_one : Bool) (free holding words : List ℕ) (for_free for_holding for_retired : ℕ) : Type 0 where

@@ -1,5 +1,5 @@
 -- What the rule says of each seat, and what the steps of other seats leave of it.
-use Rattle.std.specs.Prelude.{◌≡◌, ℕ, ◌+◌, ◌*◌, ◌/◌, ◌<◌, ◌≤◌, true, List, ◌++◌, length}
+use Rattle.std.specs.Prelude.{◌≡◌, ℕ, ◌+◌, ◌/◌, ◌<◌, ◌≤◌, true, List, ◌++◌, length}
 use Rattle.seat_history.specs.declared.entry.Entry.{Entry}
 use Rattle.step_rules.specs.Claims.{SeatClaims, Tells}
 use Rattle.step_rules.specs.History.{GoesOn, NoneBy, NoneOn}
@@ -8,6 +8,7 @@ use Rattle.step_rules.specs.Lawful.{Lawful}
 use Rattle.step_rules.specs.Looks.{SeatLook}
 use Rattle.step_rules.specs.Nodes.{SeatNodes}
 use Rattle.step_rules.specs.Scans.{SeatScan}
+use Rattle.step_rules.specs.Stock.{IsStock}
 use Rattle.step_rules.specs.Trail.{IsTrail}
 use Rattle.step_rules.specs.Views.{number}
 use Rattle.step_rules.specs.World.{World, Own, Retired, Once, has}
@@ -15,32 +16,31 @@ use Rattle.step_rules.specs.declared.layout.TheConstants.{CLAIMS}
 use Rattle.step_rules.specs.declared.plan.Plan.{Plan}
 use Rattle.step_rules.specs.declared.view.View.{View}
 
--- the seat s holds these callers' numbers, each once
-pub record SeatNumbers (p : Plan) (W : World) (s : ℕ) (numbers : List ℕ) : Type 0 where
-  pub held : (x : ℕ) → has numbers x ≡ true → W.holder x ≡ s
+-- where each number has this holder, the seat s holds these callers' numbers, each once
+pub record SeatNumbers (p : Plan) (holder : ℕ → ℕ) (s : ℕ) (numbers : List ℕ) : Type 0 where
+  pub held : (x : ℕ) → has numbers x ≡ true → holder x ≡ s
   pub below : (x : ℕ) → has numbers x ≡ true → x < p.seats
   pub once : Once numbers
 
 -- the seat has seen a first part of the history, in which all its own entries stand
-pub record SeatSeen (W : World) (numbers : List ℕ) (seen : List Entry) : Type 0 where
+pub record SeatSeen (log : List Entry) (numbers : List ℕ) (seen : List Entry) : Type 0 where
   pub rest : List Entry
-  pub whole : W.log ≡ seen ++ rest
+  pub whole : log ≡ seen ++ rest
   pub own : (x : ℕ) → has numbers x ≡ true → NoneBy x rest
 
 -- what the rule says of the seat s, whose view is v
 pub record SeatOk (p : Plan) (W : World) (s : ℕ) (v : View) : Type 0 where
   pub plan : 0 < length v.numbers → v.plan ≡ p
-  pub numbers : SeatNumbers p W s v.numbers
-  pub nodes : SeatNodes p W s v.own v.retired
-  pub stock : length v.own + length v.retired ≡ p.share * length v.numbers
-  pub removes : v.removes ≤ p.removes * length v.numbers
-  pub seen : SeatSeen W v.numbers v.seen
+  pub numbers : SeatNumbers p W.holder s v.numbers
+  pub nodes : SeatNodes p W.class W.node s v.own v.retired
+  pub stock : IsStock p (length v.numbers) v.seen v.stands (length v.own + length v.retired) v.removes
+  pub seen : SeatSeen W.log v.numbers v.seen
   pub earlier : GoesOn v.earlier v.seen
-  pub lawful : Lawful p.seats v.numbers v.seen v.stands
+  pub lawful : Lawful p v.numbers v.seen v.stands
   pub trail : IsTrail v.since v.trail v.seen
-  pub look : SeatLook p W v.seen v.look
+  pub look : SeatLook p W.backup W.log v.seen v.look
   pub claims : SeatClaims p W s v.numbers (number v) v.seen v.claims
-  pub scan : SeatScan p W v.scan v.retired
+  pub scan : SeatScan p W.guard v.scan v.retired
 
 -- what a step of another seat leaves to the seat s, which holds these numbers: the history grows by `more`
 pub record Leaves (p : Plan) (s : ℕ) (numbers : List ℕ) (W W' : World) (more : List Entry) : Type 0 where
@@ -58,6 +58,8 @@ pub record Leaves (p : Plan) (s : ℕ) (numbers : List ℕ) (W W' : World) (more
   -- a node that the seat has claimed keeps its words, and becomes no seat's own
   pub image : (x c n : ℕ) → has numbers x ≡ true → c < CLAIMS → W.guard (claim_at x c) ≡ n + 1 → W'.node n ≡ W.node n
   pub taken : (x c n t : ℕ) → has numbers x ≡ true → c < CLAIMS → W.guard (claim_at x c) ≡ n + 1 → W'.class n ≡ Own t → W.class n ≡ Own t
-  -- a backup changes only with an entry on its cell, and then to no node that the seat has claimed on Back or Hold
-  pub same : (k : ℕ) → NoneOn p k more → W'.backup k ≡ W.backup k
-  pub fresh : (x c n k : ℕ) → has numbers x ≡ true → Tells c → W.guard (claim_at x c) ≡ n + 1 → W'.backup k / 2 ≡ n → (W'.backup k ≡ W.backup k) × NoneOn p k more
+  -- a cell's node and its chain change only with an entry on the cell, and then to no node that the seat has claimed on Back or Hold
+  pub same : (k : ℕ) → NoneOn p k more → W'.backup k / 2 ≡ W.backup k / 2
+  pub falls : (k : ℕ) → NoneOn p k more → W'.backup k ≤ W.backup k
+  pub chain : (k : ℕ) → NoneOn p k more → W'.chain k ≡ W.chain k
+  pub fresh : (x c n k : ℕ) → has numbers x ≡ true → Tells c → W.guard (claim_at x c) ≡ n + 1 → W'.backup k / 2 ≡ n → NoneOn p k more

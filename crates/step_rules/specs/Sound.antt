@@ -9,6 +9,7 @@ use Rattle.step_rules.specs.Layout.{IsPlan, nodes}
 use Rattle.step_rules.specs.Looks.{IsLook}
 use Rattle.step_rules.specs.Nodes.{IsNode}
 use Rattle.step_rules.specs.Scans.{ScanSound}
+use Rattle.step_rules.specs.Stock.{IsStock}
 use Rattle.step_rules.specs.Trail.{IsTrail}
 use Rattle.step_rules.specs.World.{Once, has, nodes_of}
 use Rattle.step_rules.specs.declared.view.Held.{Held}
@@ -26,15 +27,14 @@ pub record Sound (v : View) : Type 0 where
   pub own_once : Once (nodes_of v.own)
   pub retired_once : Once v.retired
   pub retired : (n : ℕ) → has v.retired n ≡ true → n < nodes v.plan
-  pub stock : length v.own + length v.retired ≡ v.plan.share * length v.numbers
+  pub stock : IsStock v.plan (length v.numbers) v.seen v.stands (length v.own + length v.retired) v.removes
   -- history and stands
   pub history : IsHistory v.plan v.seen
   pub earlier : GoesOn v.earlier v.seen
-  pub lawful : Lawful v.plan.seats v.numbers v.seen v.stands
+  pub lawful : Lawful v.plan v.numbers v.seen v.stands
   pub trail : IsTrail v.since v.trail v.seen
   pub look : (l : Look) → v.look ≡ Some l → IsLook v.plan v.seen l
   pub claims : ClaimsSound v.plan v.seen v.claims
   pub scan : ScanSound v.plan v.scan v.retired
   -- the removes left are no more than the plan allows to the numbers; what was seen and the changes left, no more than all that it allows
-  pub removes : v.removes ≤ v.plan.removes * length v.numbers
   pub within : length v.seen + v.changes ≤ v.plan.seats * v.plan.changes

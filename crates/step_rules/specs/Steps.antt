@@ -1,23 +1,22 @@
 -- What a step leaves of its seat.
-use Rattle.std.specs.Prelude.{◌≡◌, ℕ, ◌*◌, ◌-◌, ◌<◌, ◌≤◌, true, false, List, [], ◌∷◌, ◌++◌, Some, ◌⊎◌, ⊤, suc, zero, filter, map, slice_index, length, take, drop}
+use Rattle.std.specs.Prelude.{◌≡◌, ℕ, ◌+◌, ◌*◌, ◌-◌, ◌<◌, ◌≤◌, true, false, List, [], ◌∷◌, ◌++◌, Some, ◌⊎◌, ⊤, suc, zero, filter, map, slice_index, slice_index_or, Bool, length, take, drop}
 use Rattle.seat_history.specs.declared.call.Call.{Call}
-use Rattle.seat_history.specs.declared.call.Call.TheVariants.{Load, Store, Swap, Hold, Look, Release}
+use Rattle.seat_history.specs.declared.call.Call.TheVariants.{Look, Release}
 use Rattle.seat_history.specs.declared.reply.Reply.{Reply}
 use Rattle.seat_history.specs.declared.reply.Reply.TheVariants.{Full}
 use mathlib.Core.Option.{some}
 use lib.ListN.{get_elem?}
-use Rattle.step_rules.specs.Bags.{IsWithout}
 use Rattle.step_rules.specs.Claims.{BACK, HOLD, OWN, WALK, On}
-use Rattle.step_rules.specs.History.{GoesOn, cell_of}
+use Rattle.step_rules.specs.History.{GoesOn, IsThere, cell_of}
 use Rattle.step_rules.specs.Kinds.Backup.{Looks, Wins}
 use Rattle.step_rules.specs.Kinds.Claiming.{Frees, Rechecks}
 use Rattle.step_rules.specs.Kinds.Standing.{MayStand, first_look}
-use Rattle.step_rules.specs.SeatData.{SeatData, holds_record}
-use Rattle.step_rules.specs.Views.{is_freed, joined_view, left_view, number, right_view, scanned_view}
-use Rattle.step_rules.specs.World.{has}
+use Rattle.step_rules.specs.Kinds.Walking.{WalkRechecks}
+use Rattle.step_rules.specs.SeatData.{IsHolding, SeatData, holds_record, is_quiet}
+use Rattle.step_rules.specs.Views.{claim_of, fresh_of, is_freed, joined_view, left_view, number, right_view, scanned_view}
+use Rattle.step_rules.specs.World.{has, nodes_of}
 use Rattle.step_rules.specs.Layout.{claim_at}
 use Rattle.step_rules.specs.declared.layout.TheConstants.{CLAIMS}
-use Rattle.step_rules.specs.declared.plan.Plan.{Plan}
 use Rattle.step_rules.specs.declared.view.Claim.{Claim}
 use Rattle.step_rules.specs.declared.view.Counted.{Counted}
 use Rattle.step_rules.specs.declared.view.Kind.{Kind}
@@ -51,6 +50,11 @@ pub record IsRechecked (c k x y : ℕ) (old new : SeatData) : Type 0 where
   pub rechecks : Rechecks c k x y old.view new.view
   pub same : new ≡ stepped new.view old
 
+-- a recheck of the claim on Walk, whose word names a link of the claimed chain, found the word y in the cell k
+pub record IsWalked (k x y : ℕ) (old new : SeatData) : Type 0 where
+  pub walks : (n : ℕ) → (claim_of WALK old.view).word ≡ n + 1 → WalkRechecks k x y n old.view new.view
+  pub same : new ≡ stepped new.view old
+
 -- a load of the claim word w by a scan, which found x; at the last one the freed nodes are free
 pub record IsScanned (w x : ℕ) (old new : SeatData) : Type 0 where
   pub on : suc w < CLAIMS * old.view.plan.seats → new ≡ stepped (scanned_view w x old.view) old
@@ -63,21 +67,15 @@ pub record Sees (kind : Kind) (k x : ℕ) (old new : SeatData) : Type 0 where
   pub looks : Looks kind k x old.view new.view
   pub same : new ≡ stepped new.view old
 
--- an exchange of the cell k from the word x to the held node n, which won
+-- the nodes that the seat holds are the front that the call makes, from the node n on
+abbrev pub HoldsFront : ℕ → Call → SeatData → Type 0
+HoldsFront n call seat = (m : ℕ) → has seat.holding m ≡ has (nodes_of (fresh_of n call seat.view)) m
+
+-- an exchange of the cell k from the word x to the held node n, which won: the held nodes are the cell's
 pub record Won (k x n : ℕ) (call : Call) (old new : SeatData) : Type 0 where
   pub wins : Wins k x n call old.view new.view
-  pub holding : IsWithout n old.holding new.holding
+  pub holding : new.holding ≡ []
   pub same : new ≡ record old { view = new.view; fresh = false; holding = new.holding }
-
--- the register that a call names is there, and a key is named only where there is a bucket
-abbrev pub IsThere : Plan → Call → Type 0
-IsThere p (Load reg) = reg < p.registers
-IsThere p (Store reg new) = reg < p.registers
-IsThere p (Swap reg old new) = reg < p.registers
-IsThere p (Hold reg) = reg < p.registers
-IsThere p Look = ⊤
-IsThere p Release = ⊤
-IsThere p _ = 0 < p.buckets
 
 -- the seat has looked at the call's cell since its last stand, at the latest at this place; a held record needs no look
 abbrev pub HasLooked : ℕ → Call → View → Type 0
@@ -97,17 +95,33 @@ kinds_of steps = map (λ (step : Counted). step.kind) steps
 abbrev pub found_at : ℕ → List Counted → ℕ
 found_at w loads = slice_index (map (λ (step : Counted). step.found) loads) w
 
--- among the steps is a whole scan, in which the seat's own Back, Walk and Own words are 0, and its Hold word too where no record is held
+-- and whether a claim of the seat stood in it then
+abbrev pub stood_at : ℕ → List Counted → Bool
+stood_at w loads = slice_index_or (map (λ (step : Counted). step.stood) loads) w false
+
+-- the Hold word named the node of the held record, and a claim stood in it
+pub record FindsHeld (v : View) (loads : List Counted) : Type 0 where
+  pub words : List ℕ
+  pub holds : IsHolding words v
+  pub names : found_at (claim_at (number v) HOLD) loads ≡ holds.node + 1
+  pub stood : stood_at (claim_at (number v) HOLD) loads ≡ true
+
+-- the seat's own claim words, as the loads of a scan found them: Walk and Own are 0, Back is 0 or a claim that stood, and Hold is 0, or the
+-- claim that stands on the held record's node
+pub record FindsOwnWords (v : View) (loads : List Counted) : Type 0 where
+  pub back : (found_at (claim_at (number v) BACK) loads ≡ 0) ⊎ (stood_at (claim_at (number v) BACK) loads ≡ true)
+  pub walk : found_at (claim_at (number v) WALK) loads ≡ 0
+  pub own : found_at (claim_at (number v) OWN) loads ≡ 0
+  pub hold : (found_at (claim_at (number v) HOLD) loads ≡ 0) ⊎ FindsHeld v loads
+
+-- among the steps is a whole scan, which found the seat's own words so
 pub record HasScanned (v : View) (steps : List Counted) : Type 0 where
   pub front : List Counted
   pub loads : List Counted
   pub back : List Counted
   pub whole : steps ≡ front ++ (loads ++ back)
   pub kinds : kinds_of loads ≡ scan_kinds 0 (CLAIMS * v.plan.seats)
-  pub back_none : found_at (claim_at (number v) BACK) loads ≡ 0
-  pub walk_none : found_at (claim_at (number v) WALK) loads ≡ 0
-  pub own_none : found_at (claim_at (number v) OWN) loads ≡ 0
-  pub hold_none : holds_record v ≡ false → found_at (claim_at (number v) HOLD) loads ≡ 0
+  pub own_words : FindsOwnWords v loads
 
 -- the seat may answer a call that changes nothing, at the place q
 pub record MayAnswer (q : ℕ) (call : Call) (reply : Reply) (seat : SeatData) : Type 0 where
@@ -132,8 +146,9 @@ pub record IsSplit (old kept made : SeatData) : Type 0 where
     fresh = true;
   }
 
--- all that a quiet seat had is the first seat's; what the two had seen is in what it has seen now
+-- all that a quiet seat had is the first seat's, which is quiet again; what the two had seen is in what it has seen now
 pub record IsJoined (old from new : SeatData) : Type 0 where
   pub seat : new ≡ record old { view = joined_view old.view from.view; free = old.free ++ from.free; fresh = false }
   pub seen : GoesOn old.view.seen new.view.seen
   pub seen_from : GoesOn from.view.seen new.view.seen
+  pub quiet : is_quiet new ≡ true

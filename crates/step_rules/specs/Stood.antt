@@ -5,7 +5,7 @@ use Rattle.seat_history.specs.declared.reply.Reply.{Reply}
 use Rattle.step_rules.specs.History.{GoesOn, IsHistory, cell_of}
 use Rattle.step_rules.specs.Kinds.Standing.{first_look}
 use Rattle.step_rules.specs.Lawful.{IsRight, Lawful}
-use Rattle.step_rules.specs.Views.{number}
+use Rattle.step_rules.specs.Views.{number, stock}
 use Rattle.step_rules.specs.declared.view.Counted.{Counted}
 use Rattle.step_rules.specs.declared.view.Stand.{Stand}
 use Rattle.step_rules.specs.declared.view.View.{View}
@@ -20,6 +20,8 @@ pub record Stood (asked : Call) (told : Reply) (stand : Stand) (steps : List Cou
   pub by : stand.by ≡ number v
   pub call : stand.call ≡ asked
   pub reply : stand.reply ≡ told
+  -- the stock that it keeps is the seat's when the call was made
+  pub stock : stand.stock ≡ stock v
   pub trail : w.trail ≡ v.trail ++ steps
   -- the place isn't before what was seen after the call's first look at its cell, and so not before what was seen before the call
   pub look : ℕ
@@ -27,8 +29,8 @@ pub record Stood (asked : Call) (told : Reply) (stand : Stand) (steps : List Cou
   pub from : length v.seen ≤ look
   pub after : look ≤ stand.place
   -- the stand is right, and so are all others, for what is seen now
-  pub right : IsRight w.plan.seats w.seen v.stands stand
-  pub lawful : Lawful w.plan.seats w.numbers w.seen w.stands
+  pub right : IsRight w.plan w.seen v.stands stand
+  pub lawful : Lawful w.plan w.numbers w.seen w.stands
   pub history : IsHistory w.plan w.seen
   pub seen : GoesOn v.seen w.seen
   pub within : length w.seen ≤ w.plan.seats * w.plan.changes
@@ -44,10 +46,12 @@ pub record StoodStill (asked : Call) (told : Reply) (stand : Stand) (steps : Lis
   pub by : stand.by ≡ number v
   pub call : stand.call ≡ asked
   pub reply : stand.reply ≡ told
+  -- the stock that it keeps is the seat's when the call was made
+  pub stock : stand.stock ≡ stock v
   pub trail : w.trail ≡ v.trail ++ steps
   pub from : length v.seen ≤ stand.place
-  pub right : IsRight w.plan.seats w.seen v.stands stand
-  pub lawful : Lawful w.plan.seats w.numbers w.seen w.stands
+  pub right : IsRight w.plan w.seen v.stands stand
+  pub lawful : Lawful w.plan w.numbers w.seen w.stands
   pub seen : GoesOn v.seen w.seen
   pub plan : w.plan ≡ v.plan
   pub numbers : w.numbers ≡ v.numbers

@@ -5,9 +5,10 @@ use Rattle.seat_history.specs.Step.{reply_to}
 use Rattle.seat_history.specs.declared.call.Call.{Call}
 use Rattle.seat_history.specs.declared.entry.Entry.{Entry}
 use Rattle.seat_history.specs.declared.reply.Reply.{Reply}
-use Rattle.step_rules.specs.Layout.{cells}
+use Rattle.step_rules.specs.Layout.{cells, claim_at}
 use Rattle.step_rules.specs.Lawful.{held_by}
-use Rattle.step_rules.specs.World.{has}
+use Rattle.step_rules.specs.Records.{Edit, dropped_count, edit_of, need, records_of, removes_of}
+use Rattle.step_rules.specs.World.{has, next_of, nodes_of}
 use Rattle.step_rules.specs.declared.layout.TheConstants.{CLAIMS, NODE_WIDTH}
 use Rattle.step_rules.specs.declared.plan.Plan.{Plan}
 use Rattle.step_rules.specs.declared.view.Claim.{Claim}
@@ -29,7 +30,7 @@ abbrev pub stock : View → ℕ
 stock v = length v.own + length v.retired
 
 abbrev pub counted : Kind → ℕ → ℕ → Counted
-counted kind x n = record { kind = kind; found = x; seen = n }
+counted kind x n = record { kind = kind; found = x; seen = n; stood = false }
 
 abbrev pub entry : ℕ → Call → Entry
 entry x call = record { caller = x; call = call }
@@ -71,15 +72,49 @@ changing log call v = record {
   stock = stock v;
 }
 
--- BACKUP EXCHANGE that won: the history was log, and has the call more; the own node n is the cell's, and the node found is retired
+-- a claim word in which no claim stands
+abbrev pub silent : ℕ → Claim
+silent x = record { word = x; stands = false; image = []; cell = 0; pages = []; at = 0 }
+
+-- the chain that the seat's Back claim stands on, and what a call makes of its records
+abbrev pub claimed_pages : View → List Held
+claimed_pages v = (slice_index_or v.claims 0 (silent 0)).pages
+
+abbrev pub claimed_records : View → List (List ℕ)
+claimed_records v = records_of (claimed_pages v)
+
+abbrev pub claimed_edit : Call → View → Edit
+claimed_edit call v = edit_of (claimed_records v) call
+
+-- so many own nodes from n on, linked by their next words
+abbrev pub followed : List Held → ℕ → ℕ → List Held
+followed own n zero = []
+followed own n (suc count) = record { node = n; words = words_in own n } ∷ followed own (next_of (words_in own n) - 1) count
+
+-- the nodes that come in with n, those that fall out, and those that stay
+abbrev pub fresh_of : ℕ → Call → View → List Held
+fresh_of n call v = followed v.own n (need (length (claimed_records v)) (claimed_edit call v))
+
+abbrev pub dropped_of : Call → View → List Held
+dropped_of call v = take (dropped_count (length (claimed_records v)) (claimed_edit call v)) (claimed_pages v)
+
+abbrev pub kept_of : Call → View → List Held
+kept_of call v = drop (dropped_count (length (claimed_records v)) (claimed_edit call v)) (claimed_pages v)
+
+-- the nodes but those of a list
+abbrev pub without_all : List ℕ → List Held → List Held
+without_all ns own = filter (λ (h : Held). not (has ns h.node)) own
+
+-- BACKUP EXCHANGE that won: the history was log, and has the call more; own nodes from n on are the cell's, and those that fell out are retired
 abbrev pub won_view : ℕ → ℕ → ℕ → Call → List Entry → View → View
 won_view k x n call log v = let es = log ++ entry (number v) call ∷ [] in record v {
   seen = es;
   stands = v.stands ++ changing log call v ∷ [];
-  own = without n v.own;
-  retired = v.retired ++ x / 2 ∷ [];
+  own = without_all (nodes_of (fresh_of n call v)) v.own;
+  retired = v.retired ++ nodes_of (dropped_of call v);
   look = Some (look_at k (2 * n + 1) (length es));
   changes = v.changes - 1;
+  removes = v.removes - removes_of call;
   trail = v.trail ++ counted (BackupExchange k x n) x (length es) ∷ [];
   since = length v.trail + 1;
 }
@@ -91,20 +126,16 @@ reading q call reply v = record { by = number v; place = q; call = call; reply =
 abbrev pub stood_view : ℕ → Call → Reply → View → View
 stood_view q call reply v = record v { stands = v.stands ++ reading q call reply v ∷ []; since = length v.trail }
 
--- a claim word in which no claim stands
-abbrev pub silent : ℕ → Claim
-silent x = record { word = x; stands = false; image = []; cell = 0; pages = []; at = 0 }
-
--- a claim on the node n with these words, found in the cell k after so many entries
-abbrev pub standing : ℕ → List ℕ → ℕ → ℕ → Claim
-standing n ws k at = record { word = n + 1; stands = true; image = ws; cell = k; pages = record { node = n; words = ws } ∷ []; at = at }
+-- a claim on the node n with these words, which was found in the cell k after so many entries, and heads these pages
+abbrev pub standing : ℕ → List ℕ → ℕ → List Held → ℕ → Claim
+standing n ws k pages at = record { word = n + 1; stands = true; image = ws; cell = k; pages = pages; at = at }
 
 abbrev pub claim_of : ℕ → View → Claim
 claim_of c v = slice_index_or v.claims c (silent 0)
 
 -- CLAIM STORE: the node n is announced; a claim on Own, of a node that the seat holds, stands at once
 abbrev pub announced : ℕ → ℕ → View → Claim
-announced c n v = if c == 2 then standing n (words_in v.own n) 0 0 else silent (n + 1)
+announced c n v = if c == 2 then standing n (words_in v.own n) 0 [] 0 else silent (n + 1)
 
 abbrev pub announced_view : ℕ → ℕ → View → View
 announced_view c n v = record v {
@@ -114,12 +145,25 @@ announced_view c n v = record v {
 }
 
 -- RECHECK that found the node of the word x, which the claim names: the claim stands
-abbrev pub claimed_view : ℕ → ℕ → ℕ → ℕ → List ℕ → List Entry → View → View
-claimed_view c k x found ws log v = record v {
+abbrev pub claimed_view : ℕ → ℕ → ℕ → ℕ → List ℕ → List Held → List Entry → View → View
+claimed_view c k x found ws pages log v = record v {
   seen = log;
   look = Some (look_at k found (length log));
-  claims = slice_set v.claims c (standing (found / 2) ws k (length log));
+  claims = slice_set v.claims c (standing (found / 2) ws k pages (length log));
   trail = v.trail ++ counted (Recheck c k x) found (length log) ∷ [];
+}
+
+-- a claim on Walk, on the node n of the claimed chain
+abbrev pub walked_claim : ℕ → ℕ → ℕ → View → Claim
+walked_claim n k at v = standing n (words_in (claimed_pages v) n) k [] at
+
+-- RECHECK of Walk that found Back's node
+abbrev pub walked_view : ℕ → ℕ → ℕ → ℕ → List Entry → View → View
+walked_view n k x found log v = record v {
+  seen = log;
+  look = Some (look_at k found (length log));
+  claims = slice_set v.claims 1 (walked_claim n k (length log) v);
+  trail = v.trail ++ counted (Recheck 1 k x) found (length log) ∷ [];
 }
 
 -- CLAIM CLEAR
@@ -141,8 +185,15 @@ scan_of w v = if w == 0 then record { next = 0; old = v.retired; found = [] } el
 abbrev pub scanned_scan : ℕ → ℕ → View → Scan
 scanned_scan w x v = record { next = w + 1; old = (scan_of w v).old; found = noted x (scan_of w v).found }
 
+-- whether a claim of the seat stands in the claim word w
+abbrev pub stands_in : ℕ → View → Bool
+stands_in w v = if nat_lt w (claim_at (number v) 0) then false else (claim_of (w - claim_at (number v) 0) v).stands
+
+abbrev pub scan_step : ℕ → ℕ → View → Counted
+scan_step w x v = record { kind = ScanLoad w; found = x; seen = length v.seen; stood = stands_in w v }
+
 abbrev pub scanned_view : ℕ → ℕ → View → View
-scanned_view w x v = record v { scan = scanned_scan w x v; trail = v.trail ++ counted (ScanLoad w) x (length v.seen) ∷ [] }
+scanned_view w x v = record v { scan = scanned_scan w x v; trail = v.trail ++ scan_step w x v ∷ [] }
 
 -- the nodes that the scan frees: the old ones that no word named
 abbrev pub is_freed : Scan → ℕ → Bool

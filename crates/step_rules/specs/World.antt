@@ -1,6 +1,7 @@
 -- The shared object as the rule sees it: functions, with something blank past every end.
 use Rattle.std.specs.Prelude.{◌≡◌, ℕ, ◌-◌, ◌==◌, ◌||◌, Bool, false, suc, List, [], ◌∷◌, ⊤, slice_index, if◌then◌else◌}
 use Rattle.seat_history.specs.declared.entry.Entry.{Entry}
+pub use Rattle.step_rules.specs.declared.layout.TheConstants.{END}
 use Rattle.step_rules.specs.declared.layout.TheConstants.{NODE_WIDTH}
 use Rattle.step_rules.specs.declared.view.Held.{Held}
 
@@ -10,22 +11,30 @@ pub data Class : Type 0 where
   Live : ℕ → Class
   Retired : ℕ → Class
 
--- seats are told apart by their places among the views
+-- what no word says; seats are told apart by their places among the views
+pub record Unwritten : Type 0 where
+  pub class : ℕ → Class
+  -- the nodes of each cell, the one that the backup names first
+  pub chain : ℕ → List Held
+  -- the seat that holds each caller's number
+  pub holder : ℕ → ℕ
+  -- for each claim word, a node's number and 1 where a claim on the node stands in it, else 0
+  pub guard : ℕ → ℕ
+  -- the history
+  pub log : List Entry
+
+-- what the words and the unwritten say together
 pub record World : Type 0 where
   pub class : ℕ → Class
   -- the words of each node
   pub node : ℕ → List ℕ
   -- the backup word of each cell
   pub backup : ℕ → ℕ
-  -- the nodes of each cell, the one that the backup names first
   pub chain : ℕ → List Held
-  -- the seat that holds each caller's number
   pub holder : ℕ → ℕ
-  -- the history
   pub log : List Entry
   -- the claim words, by their places
   pub word : ℕ → ℕ
-  -- for each claim word, a node's number and 1 where a claim on the node stands in it, else 0
   pub guard : ℕ → ℕ
 
 -- n stands in the list
@@ -48,10 +57,6 @@ abbrev pub link : List Held → ℕ → ℕ
 link [] e = e
 link (h ∷ r) e = suc h.node
 
--- the next word of a bucket without records
-abbrev pub END : ℕ
-END = 18446744073709551615
-
 -- a node's next word as a link, END being none
 abbrev pub next_of : List ℕ → ℕ
 next_of ws = if slice_index ws (NODE_WIDTH - 1) == END then 0 else slice_index ws (NODE_WIDTH - 1)
@@ -60,6 +65,11 @@ next_of ws = if slice_index ws (NODE_WIDTH - 1) == END then 0 else slice_index w
 abbrev pub Chained : World → Class → List Held → ℕ → Type 0
 Chained W c [] e = ⊤
 Chained W c (h ∷ r) e = (W.class h.node ≡ c) × (W.node h.node ≡ h.words) × (next_of h.words ≡ link r e) × Chained W c r e
+
+-- nodes linked one to the other and then to e
+abbrev pub Linked : List Held → ℕ → Type 0
+Linked [] e = ⊤
+Linked (h ∷ r) e = (next_of h.words ≡ link r e) × Linked r e
 
 abbrev pub IsOwn : Class → Type 0
 IsOwn (Own s) = ⊤

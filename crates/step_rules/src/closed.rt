@@ -1,22 +1,26 @@
-ghost use Rattle.std.specs.Prelude.{◌≡◌, ◌<◌, true, length};
+ghost use Rattle.std.specs.Prelude.{◌≡◌, ◌<◌, IfOk, true, length};
 ghost use Rattle.seat_history.specs.History.{state_at};
-ghost use Rattle.step_rules.specs.Closing.{IsClosed};
+ghost use Rattle.seat_history.specs.Pairs.{ArePairsOf};
+ghost use Rattle.step_rules.specs.Closing.{IsClosed, live_nodes};
+ghost use Rattle.step_rules.specs.Layout.{nodes};
 ghost use Rattle.step_rules.specs.SeatData.{IsOf, is_quiet};
 
 use crate::counts::Counts;
+use crate::last_chains::{Words, read_chain};
 use crate::layout::{CELL_WIDTH, NODE_WIDTH};
 use crate::plan::Plan;
 use crate::seat::Seat;
 use crate::shared::Shared;
 use crate::view::View;
 use atomic_table::Perch;
-use seat_history::{Call, Rec, WIDTH};
+use seat_history::{Call, PairList, PairMap, Rec, WIDTH};
 use std::alloc::Global;
 use std::marker::Model;
+use wire_ports::NoMemory;
 
-/// An object that no thread shares any more: its registers, and how many nodes are left.
+/// An object that no thread shares any more: its registers and pairs, and how many nodes are left.
 pub struct Closed {
-    words: atomic_table::Closed<Call, Global>,
+    words: Words,
     plan: Plan,
     /// Where the cells and the nodes begin.
     cells_start: usize,
@@ -30,7 +34,8 @@ pub struct Closed {
 impl Model for Closed {
     ghost use Rattle.std.specs.Prelude.{◌≡◌, ◌≤◌, ◌+◌, length};
     ghost use Rattle.std.specs.Mem.Slots.{slots_items, slots_len, IsFull};
-    ghost use Rattle.step_rules.specs.Closing.{ClosedData, EndsWith};
+    ghost use Rattle.step_rules.specs.Closing.{ClosedData, EndsWith, live_nodes};
+    ghost use Rattle.step_rules.specs.History.{IsHistory};
     ghost use Rattle.step_rules.specs.Layout.{IsPlan, cells_at, nodes, nodes_at};
     ghost use Rattle.step_rules.specs.declared.layout.TheConstants.{MOST_NODES};
 
@@ -38,7 +43,7 @@ impl Model for Closed {
 
     ghost view = { λ c. record { plan = c.plan; history = c.last.view.seen; stands = c.last.view.stands; free = c.free.items; retired = c.retired.items } };
 
-    ghost invariant = { λ c. IsFull c.words.words × (slots_len c.words.slots ≡ 0) × EndsWith c.plan (slots_items c.words.words) c.last.view.seen × (length c.free.items + c.plan.registers + length c.retired.items ≡ nodes c.plan) × (nodes c.plan ≤ MOST_NODES) × IsPlan c.plan × (c.cells_start ≡ cells_at c.plan) × (c.nodes_start ≡ nodes_at c.plan) };
+    ghost invariant = { λ c. IsFull c.words.words × (slots_len c.words.slots ≡ 0) × EndsWith c.plan (slots_items c.words.words) c.last.view.seen × (length c.free.items + live_nodes c.plan c.last.view.seen + length c.retired.items ≡ nodes c.plan) × (nodes c.plan ≤ MOST_NODES) × IsPlan c.plan × (c.cells_start ≡ cells_at c.plan) × (c.nodes_start ≡ nodes_at c.plan) × IsHistory c.plan c.last.view.seen };
 }
 
 impl Closed {
@@ -65,14 +70,40 @@ impl Closed {
         rec
     }
 
-    /// How many nodes are free, in use by the registers, and retired.
-    pub fn counts(&self) -> Counts
-        ensures { result ≡ record { free = length self.now.free; live = self.now.plan.registers; retired = length self.now.retired } }
+    /// The pairs after the whole history, by rising key.
+    pub fn pairs(&self, alloc: Global) -> Result<PairList, NoMemory>
+        ensures { IfOk result (λ pairs. ArePairsOf (state_at self.now.history (length self.now.history)).values pairs) }
     {
+        let nodes = self.nodes();
+        let mut map = PairMap::new(alloc);
+        for bucket in 0..self.plan.buckets {
+            let cell = (self.plan.registers + bucket) as usize;
+            let backup = self.words.word(self.cells_start + CELL_WIDTH * cell + 1);
+            read_chain(&self.words, self.nodes_start, nodes, backup / 2, &mut map)?;
+        }
+        map.pairs(alloc)
+    }
+
+    // How many nodes there are.
+    #[tactic(auto, unfolding(crate::specs::Layout::nodes))]
+    fn nodes(&self) -> u32
+        ensures { result ≡ nodes self.now.plan }
+    {
+        let plan = &self.plan;
+        plan.seats * plan.share + plan.registers + plan.buckets
+    }
+
+    /// How many nodes are free, in use by the cells, and retired. A register uses one, and a bucket one
+    /// for each of its records, and one where it has none.
+    pub fn counts(&self) -> Counts
+        ensures { result ≡ record { free = length self.now.free; live = live_nodes self.now.plan self.now.history; retired = length self.now.retired } }
+    {
+        let free = self.free.len() as u32;
+        let retired = self.retired.len() as u32;
         Counts {
-            free: self.free.len() as u32,
-            live: self.plan.registers,
-            retired: self.retired.len() as u32,
+            free,
+            live: self.nodes() - free - retired,
+            retired,
         }
     }
 }

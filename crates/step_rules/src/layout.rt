@@ -1,5 +1,7 @@
-ghost use Rattle.std.specs.Prelude.{◌≡◌, ◌≤◌, ◌<◌, MatchResult};
+ghost use Rattle.std.specs.Prelude.{◌≡◌, ◌≤◌, ◌<◌, ◌+◌, ◌^◌, MatchResult};
+ghost use Rattle.seat_history.specs.declared.words.TheConstants.{WIDTH};
 ghost use Rattle.step_rules.specs.Layout.{IsPlan, cells, nodes, words};
+ghost use Rattle.step_rules.specs.declared.layout.TheConstants.{CELL_WIDTH, CLAIMS, MOST_NODES, NODE_WIDTH};
 
 use crate::plan::Plan;
 use seat_history::WIDTH;
@@ -12,6 +14,9 @@ pub const CELL_WIDTH: usize = NODE_WIDTH + 2;
 
 /// How many claim words a number has.
 pub const CLAIMS: u32 = 4;
+
+/// The next word of a bucket without records.
+pub const END: u64 = u64::MAX;
 
 /// At most this many nodes.
 pub const MOST_NODES: u64 = 1 << 24;
@@ -31,11 +36,13 @@ pub struct TooLarge {
 }
 
 impl Layout {
-    /// The sizes of the plan's object; TooLarge exactly where it has more than 2^24 nodes.
+    /// The sizes of the plan's object; TooLarge exactly where it has more than 2^24 nodes. A number has 4
+    /// claim words, a node the words of a record and one more, a cell two more than a node.
     #[tactic(auto, unfolding(crate::specs::Layout::nodes))]
     pub fn of(plan: &Plan) -> Result<Layout, TooLarge>
         requires plan { IsPlan plan.now }
-        ensures fits { MatchResult result (λ _. nodes plan.now ≤ MOST_NODES) (λ _. MOST_NODES < nodes plan.now) }
+        ensures fits { MatchResult result (λ _. nodes plan.now ≤ 2 ^ 24) (λ _. 2 ^ 24 < nodes plan.now) }
+        ensures numbers { (CLAIMS ≡ 4) × (NODE_WIDTH ≡ WIDTH + 1) × (CELL_WIDTH ≡ WIDTH + 3) × (MOST_NODES ≡ 2 ^ 24) }
         ensures layout { MatchResult result (λ layout. layout ≡ record { cells = cells plan.now; nodes = nodes plan.now; words = words plan.now }) (λ refused. refused.nodes ≡ nodes plan.now) }
     {
         let cells = plan.registers + plan.buckets;

@@ -2,8 +2,11 @@
 //! of a seat keeps it, and what a seat knows by it is what the calls above promise.
 #![tactic(auto)]
 
+mod bucket;
 mod closed;
 mod counts;
+mod last_chains;
+mod laws;
 mod layout;
 mod lists;
 mod opening;
@@ -16,11 +19,15 @@ mod settle;
 mod shared;
 mod shares;
 mod steps;
+#[cfg(test)]
+mod tests;
 mod view;
 
+pub use bucket::bucket_index;
 pub use closed::Closed;
 pub use counts::Counts;
-pub use layout::{CELL_WIDTH, CLAIMS, Layout, MOST_NODES, NODE_WIDTH, TooLarge};
+pub use laws::{need_is_by_order, records_are_in_order, records_are_one};
+pub use layout::{CELL_WIDTH, CLAIMS, END, Layout, MOST_NODES, NODE_WIDTH, TooLarge};
 pub use opening::{Building, build};
 pub use place::Place;
 pub use plan::Plan;

@@ -1,18 +1,18 @@
 ghost use Rattle.std.specs.Prelude.{◌≡◌, ◌+◌, ◌<◌, ◌≤◌, ◌*◌, ◌-◌, [], IfOk, OnErr, OnOk, length, true, vec_capacity};
 ghost use Rattle.step_rules.specs.Layout.{IsPlan, cells, cells_at, nodes, words};
 ghost use Rattle.step_rules.specs.Sound.{Sound};
-ghost use Rattle.step_rules.specs.Starts.{Builds, IsBuilt, IsStart};
+ghost use Rattle.step_rules.specs.Starts.{Builds, IsBuilt, IsStart, first_next};
 ghost use Rattle.step_rules.specs.Views.{count_up, starting};
 ghost use Rattle.step_rules.specs.declared.layout.TheConstants.{CLAIMS, MOST_NODES};
 
-use crate::layout::{CELL_WIDTH, CLAIMS, Layout};
+use crate::layout::{CELL_WIDTH, CLAIMS, END, Layout, NODE_WIDTH};
 use crate::plan::Plan;
 use crate::rule::Law;
 use crate::seat::Seat;
 use crate::shared::Shared;
 use crate::view::View;
 use atomic_table::Table;
-use seat_history::Call;
+use seat_history::{Call, WIDTH};
 use std::alloc::{AllocError, Global};
 
 /// Why an object wasn't built.
@@ -23,12 +23,10 @@ pub enum Building {
     NoMemory,
 }
 
-/// Builds the object of a plan, which has no buckets in this form of the object. All registers are
-/// zeros, and the seat holds all numbers and all free nodes. TooLarge comes exactly where the plan has
-/// more than 2^24 nodes.
+/// Builds the object of a plan. All registers are zeros, all buckets are empty, and the seat holds all
+/// numbers and all free nodes. TooLarge comes exactly where the plan has more than 2^24 nodes.
 pub fn build(alloc: Global, plan: &Plan) -> Result<(Shared, Seat), Building>
     requires plan { IsPlan plan.now }
-    requires buckets { plan.now.buckets ≡ 0 }
     ensures built { Builds plan.now result }
 {
     let layout = match Layout::of(plan) {
@@ -46,7 +44,6 @@ pub fn build(alloc: Global, plan: &Plan) -> Result<(Shared, Seat), Building>
 // The words and the lists are reserved, filled and handed over.
 fn with_room(alloc: Global, plan: &Plan, layout: &Layout) -> Result<(Shared, Seat), AllocError>
     requires plan { IsPlan plan.now }
-    requires buckets { plan.now.buckets ≡ 0 }
     requires fits { nodes plan.now ≤ MOST_NODES }
     requires layout { layout.now ≡ record { cells = cells plan.now; nodes = nodes plan.now; words = words plan.now } }
     ensures built { IfOk result (λ made. IsBuilt plan.now made.0 made.1) }
@@ -54,9 +51,10 @@ fn with_room(alloc: Global, plan: &Plan, layout: &Layout) -> Result<(Shared, Sea
     let cells_start = CLAIMS as usize * plan.seats as usize;
     let (table, inner) = first_table(alloc, plan, layout, cells_start)?;
     let own = (layout.nodes - layout.cells) as usize;
-    let free = free_nodes(alloc, layout)?;
-    let holding = Vec::with_capacity(alloc, own)?;
-    let retired = Vec::with_capacity(alloc, own)?;
+    let room = own + plan.removes as usize * plan.seats as usize;
+    let free = free_nodes(alloc, layout, room)?;
+    let holding = Vec::with_capacity(alloc, room)?;
+    let retired = Vec::with_capacity(alloc, room)?;
     let scan_found = Vec::with_capacity(alloc, cells_start)?;
     let shared = Shared {
         table,
@@ -95,19 +93,21 @@ fn first_table(
 }
 
 // The nodes that are no cell's.
-fn free_nodes(alloc: Global, layout: &Layout) -> Result<Vec<u32>, AllocError>
-    requires { layout.now.cells ≤ layout.now.nodes }
+fn free_nodes(alloc: Global, layout: &Layout, room: usize) -> Result<Vec<u32>, AllocError>
+    requires sizes { layout.now.cells ≤ layout.now.nodes }
+    requires room { layout.now.nodes - layout.now.cells ≤ room }
     ensures items { IfOk result (λ free. free.items ≡ count_up layout.now.cells (layout.now.nodes - layout.now.cells)) }
-    ensures capacity { IfOk result (λ free. vec_capacity free ≡ layout.now.nodes - layout.now.cells) }
+    ensures capacity { IfOk result (λ free. vec_capacity free ≡ room) }
 {
-    let mut free = Vec::with_capacity(alloc, (layout.nodes - layout.cells) as usize)?;
+    let mut free = Vec::with_capacity(alloc, room)?;
     for node in layout.cells..layout.nodes {
         free.push_reserved(node);
     }
     Ok(free)
 }
 
-// Zeros, but that each cell's backup names the node with the cell's number.
+// Zeros, but that each cell's backup names the node with the cell's number, and a bucket's next words
+// say that it has no records.
 fn first_words(
     alloc: Global,
     plan: &Plan,
@@ -120,13 +120,24 @@ fn first_words(
     requires start { cells_start ≡ cells_at plan.now }
     ensures start { IfOk result (λ ws. IsStart plan.now ws.items) }
 {
+    let nodes_start = cells_start + CELL_WIDTH * layout.cells as usize;
     let mut words = vec![in alloc; 0u64; layout.words as usize]?;
-    let mut place = cells_start + 1;
     for cell in 0..layout.cells {
-        words[place] = 2 * u64::from(cell);
-        place += CELL_WIDTH;
+        let first = cells_start + CELL_WIDTH * cell as usize;
+        let next = first_next(plan, cell);
+        words[first + 1] = 2 * u64::from(cell);
+        words[first + 2 + WIDTH] = next;
+        words[nodes_start + NODE_WIDTH * cell as usize + WIDTH] = next;
     }
     Ok(words)
+}
+
+// The next word of a cell's first node.
+fn first_next(plan: &Plan, cell: u32) -> u64
+    requires { cell < cells plan.now }
+    ensures { result ≡ first_next plan.now cell }
+{
+    if cell < plan.registers { 0 } else { END }
 }
 
 fn first_seat(
@@ -141,7 +152,7 @@ fn first_seat(
     requires sound { Sound (starting plan.now) }
     requires free { free.items ≡ count_up (cells plan.now) (plan.now.seats * plan.now.share) }
     requires none { (holding.items ≡ []) × (retired.items ≡ []) × (scan_found.items ≡ []) }
-    requires room { (plan.now.seats * plan.now.share ≤ vec_capacity free) × (plan.now.seats * plan.now.share ≤ vec_capacity holding) × (plan.now.seats * plan.now.share ≤ vec_capacity retired) × (CLAIMS * plan.now.seats ≤ vec_capacity scan_found) }
+    requires room { (plan.now.seats * plan.now.share + plan.now.removes * plan.now.seats ≤ vec_capacity free) × (plan.now.seats * plan.now.share + plan.now.removes * plan.now.seats ≤ vec_capacity holding) × (plan.now.seats * plan.now.share + plan.now.removes * plan.now.seats ≤ vec_capacity retired) × (CLAIMS * plan.now.seats ≤ vec_capacity scan_found) }
     ensures seat { result ≡ record { object = inner.table_id; view = starting plan.now; free = free.items; holding = []; first = true; fresh = true } }
 {
     Seat {

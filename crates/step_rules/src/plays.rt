@@ -1,5 +1,5 @@
 //! What each kind of atomic step tells its caller.
-ghost use Rattle.step_rules.specs.Plays.{announced, cleared, exchanged, loaded, looked, rechecked, scanned, settled, stood, stored};
+ghost use Rattle.step_rules.specs.Plays.{announced, cleared, exchanged, loaded, looked, rechecked_any, scanned, settled, stood, stored};
 ghost use Rattle.step_rules.specs.Views.{joined_view, left_view, right_view, spent_view};
 
 use crate::place::{Place, Rechecking, Telling};
@@ -45,7 +45,7 @@ pub(crate) struct Rechecks<R> {
 }
 
 impl<R: Rechecking> Play<Call, View> for Rechecks<R> {
-    ghost then = { rechecked R.claim R.seen };
+    ghost then = { rechecked_any R.claim R.seen };
 }
 
 pub(crate) struct Clears;

@@ -1,6 +1,6 @@
 ghost use Rattle.std.specs.Prelude.{◌≡◌, ◌<◌, ◌+◌, ◌-◌, ◌++◌, ◌∷◌, [], true, false, length, slice_index};
 ghost use Rattle.step_rules.specs.Bags.{IsWithout};
-ghost use Rattle.step_rules.specs.SeatData.{IsSeat, SeatData, Takes, is_quiet};
+ghost use Rattle.step_rules.specs.SeatData.{IsSeat, SeatData, Takes, holds_record, is_quiet};
 ghost use Rattle.step_rules.specs.Steps.{IsUnannounced};
 ghost use Rattle.step_rules.specs.Views.{claim_of, number};
 ghost use Rattle.step_rules.specs.World.{has, nodes_of};
@@ -97,6 +97,13 @@ impl Seat {
         ensures { result ≡ is_quiet self.now }
     {
         !self.holds_record && self.holding.is_empty() && self.claims.iter().all(|word| *word == 0)
+    }
+
+    /// Whether a record is held.
+    pub fn holds_record(&self) -> bool
+        ensures { result ≡ holds_record self.now.view }
+    {
+        self.holds_record
     }
 
     /// How many changes are left.

@@ -1,5 +1,5 @@
 ghost use Rattle.std.specs.Prelude.{◌≡◌, ◌<◌};
-ghost use Rattle.step_rules.specs.Layout.{backup_at, claim_at, node_at, nodes, words};
+ghost use Rattle.step_rules.specs.Layout.{cells, backup_at, claim_at, node_at, nodes, words};
 ghost use Rattle.step_rules.specs.declared.layout.TheConstants.{CLAIMS, NODE_WIDTH};
 
 use crate::layout::{CELL_WIDTH, CLAIMS, NODE_WIDTH};
@@ -30,7 +30,7 @@ impl Model for Shared {
 
     ghost view = { λ s. record { object = s.table.shared.table_id; plan = s.plan } };
 
-    ghost invariant = { λ s. IsPlan s.plan × (nodes s.plan ≤ MOST_NODES) × (s.plan ≡ s.table.shared.key) × (s.table.shared.table_id.words ≡ words s.plan) × (s.cells_start ≡ cells_at s.plan) × (s.nodes_start ≡ nodes_at s.plan) × (s.table.shared.table_id.slots ≡ 0) × (s.plan.buckets ≡ 0) };
+    ghost invariant = { λ s. IsPlan s.plan × (nodes s.plan ≤ MOST_NODES) × (s.plan ≡ s.table.shared.key) × (s.table.shared.table_id.words ≡ words s.plan) × (s.cells_start ≡ cells_at s.plan) × (s.nodes_start ≡ nodes_at s.plan) × (s.table.shared.table_id.slots ≡ 0) };
 }
 
 impl Shared {
@@ -59,7 +59,7 @@ impl Shared {
 
     // The place of a register's backup.
     pub(crate) fn backup_place(&self, cell: u32) -> usize
-        requires { cell < self.now.plan.registers }
+        requires { cell < cells self.now.plan }
         ensures { (result ≡ backup_at self.now.plan cell) × (result < words self.now.plan) }
     {
         self.cells_start + CELL_WIDTH * cell as usize + 1

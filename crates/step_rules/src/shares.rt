@@ -1,4 +1,4 @@
-ghost use Rattle.std.specs.Prelude.{◌≡◌, ◌≤◌, ◌<◌, ◌*◌, [], true, IfOk, OnErr, length, vec_capacity};
+ghost use Rattle.std.specs.Prelude.{◌≡◌, ◌≤◌, ◌<◌, ◌+◌, ◌*◌, [], true, IfOk, OnErr, length, vec_capacity};
 ghost use Rattle.step_rules.specs.SeatData.{IsOf, is_quiet};
 ghost use Rattle.step_rules.specs.Steps.{IsJoined, IsSplit};
 ghost use Rattle.step_rules.specs.declared.layout.TheConstants.{CLAIMS};
@@ -21,10 +21,10 @@ impl Shared {
         ensures split { IfOk result (λ made. IsSplit seat.old seat.new made) }
         ensures refused { OnErr result (seat.new ≡ seat.old) }
     {
-        let share = self.plan.share as usize;
-        let free = Vec::with_capacity(alloc, share)?;
-        let holding = Vec::with_capacity(alloc, share)?;
-        let retired = Vec::with_capacity(alloc, share)?;
+        let room = self.plan.share as usize + self.plan.removes as usize;
+        let free = Vec::with_capacity(alloc, room)?;
+        let holding = Vec::with_capacity(alloc, room)?;
+        let retired = Vec::with_capacity(alloc, room)?;
         let scan_found = Vec::with_capacity(alloc, self.cells_start)?;
         Ok(self.cut(seat, free, holding, retired, scan_found))
     }
@@ -42,7 +42,7 @@ impl Shared {
         requires fresh { seat.old.fresh ≡ true }
         requires more { 1 < length seat.old.view.numbers }
         requires empty { (free.items ≡ []) × (holding.items ≡ []) × (retired.items ≡ []) × (scan_found.items ≡ []) }
-        requires room { (self.now.plan.share ≤ vec_capacity free) × (self.now.plan.share ≤ vec_capacity holding) × (self.now.plan.share ≤ vec_capacity retired) × (CLAIMS * self.now.plan.seats ≤ vec_capacity scan_found) }
+        requires room { (self.now.plan.share + self.now.plan.removes ≤ vec_capacity free) × (self.now.plan.share + self.now.plan.removes ≤ vec_capacity holding) × (self.now.plan.share + self.now.plan.removes ≤ vec_capacity retired) × (CLAIMS * self.now.plan.seats ≤ vec_capacity scan_found) }
         ensures split { IsSplit seat.old seat.new result }
     {
         let mut inner = self.table.shared.split_seat::<Halves>(&mut seat.inner);

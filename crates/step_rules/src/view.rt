@@ -52,6 +52,8 @@ pub struct Counted {
     pub found: u64,
     /// How much of the history the seat had seen after it.
     pub seen: u64,
+    /// Of a scan load: whether a claim of the seat stood in the word.
+    pub stood: bool,
 }
 
 /// A claim word of the seat's least number.

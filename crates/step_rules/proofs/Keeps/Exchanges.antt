@@ -1,79 +1,67 @@
 -- BACKUP EXCHANGE keeps the rule.
-use Rattle.std.proofs.Common.{append_assoc, ◌≡◌, ◌≢◌, ℕ, ◌+◌, ◌-◌, ◌*◌, ◌/◌, ◌<◌, ◌≤◌, ◌==◌, suc, zero, true, false, List, [], ◌∷◌, ◌++◌, length, drop, set, get_or, eqb, cond, eq-eqb, ne_eqb, refl, sym, ap, ◌∙◌, subst, arith, inl, ⊎_elim, append-nil, le_refl, length-append}
-use Rattle.std.proofs.lemmas.Bool.{or_from, or_parts, false≢true, cond-false}
-use Rattle.std.proofs.Math.Seq.{get_or-append_seam}
-use mathlib.Core.Option.{none, some, some-injective, some-ne-none}
+use Rattle.std.proofs.Common.{append_assoc, ◌≡◌, ◌≢◌, ℕ, ◌+◌, ◌*◌, ◌/◌, ◌<◌, ◌≤◌, ◌==◌, suc, true, List, [], ◌∷◌, ◌++◌, length, drop, take, set}
+use Rattle.std.proofs.Common.{get_or, cond, refl, sym, ap, ◌∙◌, subst}
+use Rattle.std.proofs.Common.{arith, inl, ⊎_elim, append-nil, le_refl, length-append}
+use Rattle.std.proofs.lemmas.Bool.{cond-false, cond-true}
+use Rattle.std.proofs.lemmas.List.{length-set, take-append-drop, length-take-le}
+use Rattle.std.proofs.Math.Seq.{take-append_seam}
+use mathlib.Core.Option.{none, some, some-injective}
 use lib.ListN.{get_elem?}
 use prog.Atomic.{either}
 use Rattle.atomic_table.proofs.Lists.{exchanged as by_hit}
-use Rattle.atomic_table.specs.Table.{State, Act, keeps, step, stepped, Allows, Valid, carried_after}
+use Rattle.atomic_table.specs.Table.{Act, step, stepped, Allows, Valid, carried_after}
 use Rattle.seat_history.proofs.Changed.{set_at_here}
 use Rattle.seat_history.specs.Change.{is_change}
 use Rattle.seat_history.specs.Contents.{Contents, set_at}
 use Rattle.seat_history.specs.History.{state_at}
-use Rattle.seat_history.specs.Step.{contents_after}
 use Rattle.seat_history.specs.declared.call.Call.{Call}
 use Rattle.seat_history.specs.declared.entry.Entry.{Entry}
-use Rattle.seat_history.specs.declared.words.TheConstants.{WIDTH}
-use Rattle.step_rules.specs.Cells.{CellsAgree, register_chain}
-use Rattle.step_rules.specs.Claims.{BACK, IsClaim}
+use Rattle.step_rules.specs.Cells.{CellsAgree, IsCell}
+use Rattle.step_rules.specs.Claims.{BACK}
 use Rattle.step_rules.specs.History.{IsEntry, IsHistory, NoneOn, cell_of}
 use Rattle.step_rules.specs.Kinds.Backup.{Looks, MayExchange, Wins}
 use Rattle.step_rules.specs.Kinds.Exchange.{Exchanges}
-use Rattle.step_rules.specs.Lawful.{Lawful}
 use Rattle.step_rules.specs.Layout.{backup_at, cells, nodes, nodes_at}
-use Rattle.step_rules.specs.Nodes.{IsNode}
+use Rattle.step_rules.specs.Nodes.{IsNode, SeatNodes}
 use Rattle.step_rules.specs.Plays.{Mine, exchanged}
-use Rattle.step_rules.specs.Rule.{Holds, HoldsAt, backup_word, node_words, world_of}
+use Rattle.step_rules.specs.Records.{Edit, IsCounted, Within, cost_of, dropped_count, edit_of, edited, fresh_records, gain_of, is_change_in, need, records_after, records_at, records_of}
+use Rattle.step_rules.specs.Rule.{Holds, backup_word, world_of}
 use Rattle.step_rules.specs.Seats.{SeatOk}
-use Rattle.step_rules.specs.Sound.{Sound}
+use Rattle.step_rules.specs.Stock.{IsStock}
 use Rattle.step_rules.specs.Trail.{IsTrail}
-use Rattle.step_rules.specs.Views.{counted, entry, look_at, number, without, won_view, words_in}
-use Rattle.step_rules.specs.World.{Class, World, Own, Live, Retired, Once, END, has, next_of}
-use Rattle.step_rules.specs.declared.layout.TheConstants.{CLAIMS, NODE_WIDTH}
+use Rattle.step_rules.specs.Views.{changing, claimed_edit, claimed_pages, claimed_records, counted as counted_step, dropped_of, entry, fresh_of, kept_of, number, silent, won_view}
+use Rattle.step_rules.specs.World.{Chained, Class, World, Own, Live, Retired, Once, has, link, nodes_of, Unwritten}
+use Rattle.step_rules.specs.declared.layout.TheConstants.{CLAIMS}
 use Rattle.step_rules.specs.declared.plan.Plan.{Plan}
 use Rattle.step_rules.specs.declared.view.Claim.{Claim}
 use Rattle.step_rules.specs.declared.view.Held.{Held}
 use Rattle.step_rules.specs.declared.view.Kind.TheVariants.{BackupExchange}
 use Rattle.step_rules.specs.declared.view.View.{View}
-use Rattle.step_rules.proofs.Advance.{advance, sound_at, goes_further, set_found}
-use Rattle.step_rules.proofs.Contents.{state_next, else_same, same_after, same_change, quiet_register, wide_register}
-use Rattle.step_rules.proofs.Exchanging.{exchange_leaves, exchange_guards, exchange_claims, exchange_scan, exchange_nodes, exchange_cells}
-use Rattle.step_rules.proofs.Frames.{node_low, backup_else, backup_here, backup_is, claim_else}
-use Rattle.step_rules.proofs.Lawfuls.{lawful_change, lawful_more}
-use Rattle.step_rules.proofs.Owns.{length-without, once-without, without_at, words_at}
+use Rattle.step_rules.proofs.Advance.{goes_further}
+use Rattle.step_rules.proofs.Chains.{chained_class, chained_parts, head_has, linked_chained}
+use Rattle.step_rules.proofs.Edits.{chain_edit, edit_stock}
+use Rattle.step_rules.proofs.Exchanging.{exchange_cells, exchange_claims, exchange_leaves, exchange_nodes}
+use Rattle.step_rules.proofs.Frames.{backup_else, backup_here, backup_is, claim_else, is_set, node_low, one_cell, set_at_else}
+use Rattle.step_rules.proofs.Fronts.{chained_once, dropped_within, followed_link, followed_words, length-followed, length-without_all, need_some, once-without_all, without_all_at}
+use Rattle.step_rules.proofs.Lawfuls.{lawful_change}
+use Rattle.step_rules.proofs.Owns.{words_at}
+use Rattle.step_rules.proofs.Stocks.{stock_push}
 use Rattle.step_rules.proofs.Trails.{trail_stand, trail_step}
-use Rattle.step_rules.proofs.Seeing.{RegisterNode, register_node, seat_look, seeing, sees_holds, sees_sound, sees_told}
-use Rattle.step_rules.proofs.Sets.{at_has, has-append, has_first, has_left, once-append}
-use Rattle.step_rules.proofs.Bags.{one_there}
+use Rattle.step_rules.proofs.RecordsAt.{next_records}
+use Rattle.step_rules.proofs.RecordsTell.{EachThere, change_in, change_within}
+use Rattle.step_rules.proofs.Moments.{Made, Moment, advance, load_owed, moment, seat, store_owed, world}
+use Rattle.step_rules.proofs.Seeing.{lawful_seen, look_now, seeing, sees, sees_told, stock_seen}
+use Rattle.step_rules.proofs.Sets.{at_has, has_at, has-append, has_first, has_left, length-nodes_of, nodes_of-append, once-append, once_parts}
 use Rattle.seat_history.proofs.Histories.{state_at-append}
-use Rattle.step_rules.proofs.Places.{at_more}
+use Rattle.step_rules.proofs.Places.{at_more, there_at}
 
-set_at_else : {X : Type 0} (f : ℕ → X) (n m : ℕ) (x : X) → m ≢ n → set_at f n x m ≡ f m
-set_at_else f n m x ne = cond-false (eqb n m) x (f m) (ne_eqb n m (λ e. ne (sym e)))
-
--- a list of one number, or of one node
-one_else : (n m : ℕ) → has (n ∷ []) m ≡ false → m ≢ n
-one_else n m h e = false≢true (sym (or_parts (eqb n m) false h).0 ∙ eq-eqb n m (sym e))
-
-one_not : (n m : ℕ) → m ≢ n → has (n ∷ []) m ≡ false
-one_not n m ne = or_from (eqb n m) false (ne_eqb n m (λ e. ne (sym e))) refl
-
-one_at : (h g : Held) (i : ℕ) → get_elem? (h ∷ []) i ≡ some g → h ≡ g
-one_at h g zero e = some-injective h g e
-one_at h g (suc i) e = absurd (some-ne-none g (sym e))
-
--- the next word behind a record
-register_next : (rec : List ℕ) → length rec ≡ WIDTH → next_of (rec ++ 0 ∷ []) ≡ 0
-register_next rec wide =
-    let e : get_or (rec ++ 0 ∷ []) (NODE_WIDTH - 1) 0 ≡ 0 = ap (λ i. get_or (rec ++ 0 ∷ []) i 0) (sym wide) ∙ get_or-append_seam rec 0 [] 0 in
-    ap (λ y. cond (y == END) 0 y) e
-
+-- one entry more, which changes what it finds
 history_more : (p : Plan) (log : List Entry) (e : Entry) → IsHistory p log → IsEntry p (state_at log (length log)) e → IsHistory p (log ++ e ∷ [])
 history_more p log e h is = record {
   each = λ i f at. ⊎_elim
       (λ t. let l = t.0 in subst (λ c. IsEntry p c f) (sym (state_at-append log (e ∷ []) i (omega arith))) (h.each i f t.1))
-      (λ t. subst (λ (q : Contents × Entry). IsEntry p q.0 q.1) (λ j. (sym (ap (state_at (log ++ e ∷ [])) t.0 ∙ state_at-append log (e ∷ []) (length log) (le_refl (length log))) j, t.1 j)) is)
+      (λ t. subst (λ (q : Contents × Entry). IsEntry p q.0 q.1)
+      (λ j. (sym (ap (state_at (log ++ e ∷ [])) t.0 ∙ state_at-append log (e ∷ []) (length log) (le_refl (length log))) j, t.1 j)) is)
       (at_more log e f i at);
 }
 
@@ -86,49 +74,99 @@ claim_apart p k w lt e = omega arith
 backup_one : (p : Plan) (j k : ℕ) → j ≢ k → backup_at p j ≢ backup_at p k
 backup_one p j k ne e = ne (omega arith)
 
-register_inside : {p : Plan} {ws : List ℕ} {vs : List View} {class : ℕ → Class} {chain : ℕ → List Held} {holder guard : ℕ → ℕ} {log : List Entry} (id : ℕ) {v : View} {k x n : ℕ} {call : Call}
-    → HoldsAt p ws vs class chain holder guard log → get_elem? vs id ≡ some v → MayExchange k x n call v → k < p.registers
-register_inside {p = p} id {v = v} {x = x} h at may = subst (λ j. j < p.registers) may.cell ((h.seats id v at).claims.sound.told BACK (x / 2) may.back may.claimed (inl refl) may.stands).cell
+cell_inside : (m : Moment) {k x n : ℕ} {call : Call} → MayExchange k x n call m.view → k < cells m.view.plan
+cell_inside m {x = x} may = subst (λ j. j < cells m.view.plan) may.cell ((seat m).claims.sound.told BACK (x / 2) may.back may.claimed (inl refl) may.stands).cell
 
 -- the exchange won
-module _ {p : Plan} {ws : List ℕ} {vs : List View} {class : ℕ → Class} {chain : ℕ → List Held} {holder guard : ℕ → ℕ} {log : List Entry} (id : ℕ) {v : View} {k x n : ℕ} {call : Call}
-    (h : HoldsAt p ws vs class chain holder guard log) (at : get_elem? vs id ≡ some v) (numbered : 0 < length v.numbers) (may : MayExchange k x n call v) (hit : backup_word p ws k ≡ x) where
+module _ (m : Moment) {k x n : ℕ} {call : Call} (may : MayExchange k x n call m.view) (hit : backup_word m.view.plan m.ws k ≡ x) where
+  abbrev p : Plan
+  p = m.view.plan
+
+  abbrev v : View
+  v = m.view
+
   abbrev W : World
-  W = world_of p ws class chain holder guard log
+  W = world m
+
+  abbrev log : List Entry
+  log = m.unwritten.log
+
+  abbrev id : ℕ
+  id = m.id
 
   o : SeatOk p W id v
-  o = h.seats id v at
+  o = seat m
 
-  ours : v.plan ≡ p
-  ours = o.plan numbered
+  inside : k < cells p
+  inside = cell_inside m may
 
-  is_claim : IsClaim p v.seen may.back (x / 2)
-  is_claim = o.claims.sound.told BACK (x / 2) may.back may.claimed (inl refl) may.stands
+  cell : IsCell p W k
+  cell = m.rule.cells.cell k inside
 
-  inside : k < p.registers
-  inside = register_inside id h at may
+  abbrev dropped : List Held
+  dropped = dropped_of call v
 
-  is_cell : k < cells p
-  is_cell = let l = inside in omega arith
+  abbrev kept : List Held
+  kept = kept_of call v
 
-  on : cell_of p call ≡ k
-  on = ap (λ q. cell_of q call) (sym ours) ∙ may.on
+  abbrev fresh : List Held
+  fresh = fresh_of n call v
 
-  -- the register is what it was where the claim on Back began to stand
+  abbrev rs : List (List ℕ)
+  rs = claimed_records v
+
+  abbrev edit : Edit
+  edit = claimed_edit call v
+
+  parts : dropped ++ kept ≡ claimed_pages v
+  parts = take-append-drop (dropped_count (length rs) edit) (claimed_pages v)
+
+  -- the cell has the chain that the claim on Back stands on
   calm : NoneOn p k (drop may.back.at log)
   calm = subst (λ j. NoneOn p j (drop may.back.at log)) may.cell
-      (o.claims.calm BACK (x / 2) may.back may.claimed (inl refl) may.stands (ap (λ y. y / 2) (ap (backup_word p ws) may.cell ∙ hit)))
+      (o.claims.calm BACK (x / 2) may.back may.claimed (inl refl) may.stands (ap (λ y. y / 2) (ap W.backup may.cell ∙ hit)))
 
-  same_register : (state_at log (length log)).registers k ≡ (state_at v.seen may.back.at).registers k
-  same_register =
-      let whole = o.seen.whole in
-      let below : may.back.at ≤ length v.seen = is_claim.began in
-      let long = ap length whole in
-      quiet_register p log may.back.at k inside (omega (arith, length-append v.seen o.seen.rest)) calm
-      ∙ ap (λ (c : Contents). c.registers k) (ap (λ es. state_at es may.back.at) whole ∙ state_at-append v.seen o.seen.rest may.back.at below)
+  chain_is : W.chain k ≡ claimed_pages v
+  chain_is = subst (λ j. W.chain j ≡ may.back.pages) may.cell (o.claims.pages BACK (x / 2) may.back may.claimed (inl refl) may.stands (ap (λ y. y / 2) (ap W.backup may.cell ∙ hit)))
+      ∙ ap (λ (y : Claim). y.pages) (sym (there_at v.claims BACK may.back (silent 0) may.claimed))
+
+  records_now : rs ≡ records_at p log k
+  records_now = ap records_of (sym chain_is) ∙ cell.records
+
+  records_on : records_at p log (cell_of p call) ≡ rs
+  records_on = ap (records_at p log) may.on ∙ sym records_now
+
+  each_there : EachThere p log
+  each_there i e f = (m.rule.history.each i e f).there
+
+  changes_on : is_change_in (records_at p log (cell_of p call)) call ≡ true
+  changes_on = ap (λ l. is_change_in l call) records_on ∙ may.changes
 
   changes : is_change (state_at log (length log)) call ≡ true
-  changes = same_change p (state_at log (length log)) (state_at v.seen may.back.at) call k inside on same_register ∙ may.changes
+  changes = change_in p log call may.there each_there ∙ changes_on
+
+  counted : IsCounted (dropped ++ kept)
+  counted = subst IsCounted (chain_is ∙ sym parts) cell.counted
+
+  within : Within (length rs) edit
+  within = subst (λ l. Within (length l) (edit_of l call)) records_on (change_within p log call may.there changes_on)
+
+  dropped_long : length dropped ≡ dropped_count (length rs) edit
+  dropped_long = length-take-le (dropped_count (length rs) edit) (claimed_pages v)
+      (subst (λ m. dropped_count (length rs) edit ≤ m) (sym (subst IsCounted chain_is cell.counted)) (dropped_within (length rs) edit within))
+
+  fresh_long : length fresh ≡ need (length rs) edit
+  fresh_long = length-followed v.own n (need (length rs) edit)
+
+  all_records : rs ≡ records_of (dropped ++ kept)
+  all_records = ap records_of (sym parts)
+
+  edits : (records_of (fresh ++ kept) ≡ edited (records_of (dropped ++ kept)) edit) × IsCounted (fresh ++ kept)
+  edits = chain_edit dropped kept fresh edit counted
+      (subst (λ l. Within (length l) edit) all_records within)
+      (dropped_long ∙ ap (λ l. dropped_count (length l) edit) all_records)
+      (fresh_long ∙ ap (λ l. need (length l) edit) all_records)
+      (may.records ∙ ap (λ l. fresh_records l edit) all_records)
 
   abbrev e : Entry
   e = entry (number v) call
@@ -136,144 +174,173 @@ module _ {p : Plan} {ws : List ℕ} {vs : List View} {class : ℕ → Class} {ch
   abbrev pub es : List Entry
   es = log ++ e ∷ []
 
-  abbrev now : Contents
-  now = state_at log (length log)
+  records_then : records_of (fresh ++ kept) ≡ records_at p es k
+  records_then = edits.0 ∙ (ap (λ l. edited l edit) (sym all_records)
+      ∙ (sym (cond-true (is_change_in rs call) (edited rs edit) rs may.changes)
+      ∙ (ap (λ l. records_after l call) records_now ∙ sym (next_records p log e k may.on))))
 
-  abbrev then : Contents
-  then = state_at es (length es)
+  chained : Chained W (Live k) (dropped ++ kept) 0
+  chained = subst (λ l. Chained W (Live k) l 0) (chain_is ∙ sym parts) cell.chained
 
-  new_record : then.registers k ≡ (contents_after (state_at v.seen may.back.at) call).registers k
-  new_record = ap (λ (c : Contents). c.registers k) (state_next log e) ∙ same_after p now (state_at v.seen may.back.at) call k inside on same_register
+  class_fresh : (m : ℕ) → has (nodes_of fresh) m ≡ true → W.class m ≡ Own id
+  class_fresh m is = let f = at_has v.own m (may.own m is) in ap W.class (sym f.3) ∙ o.nodes.mine f.0 f.1 f.2
 
-  new_words : words_in v.own n ≡ then.registers k ++ 0 ∷ []
-  new_words = may.words ∙ ap (λ r. r ++ 0 ∷ []) (sym new_record)
+  class_dropped : (m : ℕ) → has (nodes_of dropped) m ≡ true → W.class m ≡ Live k
+  class_dropped m is = chained_class W (Live k) dropped (link kept 0) m (chained_parts W (Live k) dropped kept 0 chained).0 is
 
-  old_node : RegisterNode p W now k
-  old_node = register_node p W now k inside (h.cells.cell k is_cell)
-
-  class_old : class (x / 2) ≡ Live k
-  class_old = ap (λ y. class (y / 2)) (sym hit) ∙ old_node.class
-
-  mine : (i : ℕ) × (g : Held) × (get_elem? v.own i ≡ some g) × (g.node ≡ n)
-  mine = at_has v.own n may.own
-
-  class_n : class n ≡ Own id
-  class_n = ap class (sym mine.3) ∙ o.nodes.class mine.0 mine.1 mine.2
-
-  apart : n ≢ x / 2
-  apart q = let c : Own id ≡ Live k = sym class_n ∙ (ap class q ∙ class_old) in cc
-
-  words_n : node_words p ws n ≡ then.registers k ++ 0 ∷ []
-  words_n = ap (node_words p ws) (sym mine.3) ∙ (o.nodes.words mine.0 mine.1 mine.2 ∙ (sym (words_at n v.own mine.0 mine.1 o.nodes.once mine.2 mine.3) ∙ new_words))
+  -- a fresh node is an own one, with its words
+  fresh_own : (i : ℕ) (g : Held) → get_elem? fresh i ≡ some g → IsNode p g × (W.node g.node ≡ g.words)
+  fresh_own i g f =
+      let q = at_has v.own g.node (may.own g.node (has_at fresh i g f)) in
+      let w : g.words ≡ q.1.words = followed_words v.own n (need (length rs) edit) i g f ∙ words_at g.node v.own q.0 q.1 o.nodes.once q.2 q.3 in
+      let is = o.nodes.there q.0 q.1 q.2 in (
+        record { there = subst (λ m. m < nodes p) q.3 is.there; wide = ap length w ∙ is.wide },
+        ap (W.node) (sym q.3) ∙ (o.nodes.words q.0 q.1 q.2 ∙ sym w),
+      )
 
   history : IsHistory p es
-  history = history_more p log e h.history (record {
-    caller = o.numbers.below (number v) (has_first v.numbers numbered);
-    cell = subst (λ j. j < p.registers) (sym on) inside;
+  history = history_more p log e m.rule.history (record {
+    caller = o.numbers.below (number v) (has_first v.numbers m.numbered);
+    there = may.there;
     changes = changes;
     wide = may.wide;
   })
 
-  abbrev pub class' : ℕ → Class
-  class' = set_at (set_at class n (Live k)) (x / 2) (Retired id)
+  abbrev class' : ℕ → Class
+  class' i = cond (has (nodes_of fresh) i) (Live k) (cond (has (nodes_of dropped) i) (Retired id) (W.class i))
 
-  abbrev pub chain' : ℕ → List Held
-  chain' = set_at chain k (register_chain n (then.registers k))
+  abbrev now : Unwritten
+  now = record m.unwritten { class = class'; chain = set_at W.chain k (fresh ++ kept); log = es }
 
   abbrev ws' : List ℕ
-  ws' = set ws (backup_at p k) (2 * n + 1)
+  ws' = set m.ws (backup_at p k) (2 * n + 1)
 
   abbrev W' : World
-  W' = world_of p ws' class' chain' holder guard es
+  W' = record W { class = class'; chain = set_at W.chain k (fresh ++ kept); log = es; backup = set_at W.backup k (2 * n + 1) }
 
-  class_else : (m : ℕ) → m ≢ n → m ≢ x / 2 → class' m ≡ class m
-  class_else m a b = set_at_else (set_at class n (Live k)) (x / 2) m (Retired id) b ∙ set_at_else class n m (Live k) a
-
-  class_new : class' n ≡ Live k
-  class_new = set_at_else (set_at class n (Live k)) (x / 2) n (Retired id) apart ∙ set_at_here class n (Live k)
-
-  class_gone : class' (x / 2) ≡ Retired id
-  class_gone = set_at_here (set_at class n (Live k)) (x / 2) (Retired id)
-
-  backup_new : backup_word p ws' k ≡ 2 * n + 1
-  backup_new = let wide = h.wide in backup_here p ws k (2 * n + 1) is_cell (omega arith)
-
-  abbrev dropped : List Held
-  dropped = register_chain (x / 2) (now.registers k)
-
-  abbrev fresh : List Held
-  fresh = register_chain n (then.registers k)
-
-  is_node : IsNode p (record { node = n; words = then.registers k ++ 0 ∷ [] })
-  is_node = let q = o.nodes.node mine.0 mine.1 mine.2 in record {
-    there = subst (λ m. m < nodes p) mine.3 q.there;
-    wide = ap length (sym new_words ∙ words_at n v.own mine.0 mine.1 o.nodes.once mine.2 mine.3) ∙ q.wide;
+  is : world_of p ws' now ≡ W'
+  is = λ j. record {
+    class = class';
+    node = λ i. node_low p m.ws (backup_at p k) (2 * n + 1) i (backup_low p k inside) j;
+    backup = is_set W.backup (backup_word p ws') k (2 * n + 1) (let wide = m.rule.wide in backup_here p m.ws k (2 * n + 1) inside (omega arith))
+        (λ i ne. backup_else p m.ws (backup_at p k) (2 * n + 1) i (λ _. backup_one p i k ne)) j;
+    chain = set_at W.chain k (fresh ++ kept);
+    holder = W.holder;
+    log = es;
+    word = λ w. claim_else p m.ws (backup_at p k) (2 * n + 1) w (λ lt. claim_apart p k w lt) j;
+    guard = W.guard;
   }
 
-  exchange : Exchanges p id k dropped [] fresh (e ∷ []) W W'
+  backup_new : W'.backup k ≡ 2 * n + 1
+  backup_new = set_at_here W.backup k (2 * n + 1)
+
+  fresh_head : link fresh 0 ≡ suc n
+  fresh_head = followed_link v.own n (need (length rs) edit) (need_some (length rs) edit)
+
+  some_fresh : 0 < length fresh
+  some_fresh = subst (λ i. 0 < i) (sym fresh_long) (need_some (length rs) edit)
+
+  exchange : Exchanges p id k dropped kept fresh (e ∷ []) W W'
   exchange = record {
     log = refl;
-    by = λ y ne. ((λ q. ne (ap holder (sym q) ∙ o.numbers.held (number v) (has_first v.numbers numbered))), tt);
-    here = λ none. none.0 on;
-    there = λ j ne. ((λ q. ne (sym q ∙ on)), tt);
+    by = λ y ne. ((λ q. ne (ap W.holder (sym q) ∙ o.numbers.held (number v) (has_first v.numbers m.numbered))), tt);
+    here = λ none. none.0 may.on;
+    there = λ j ne. ((λ q. ne (sym q ∙ may.on)), tt);
     holder = λ y. refl;
-    before = (h.cells.cell k is_cell).register inside ∙ ap (λ y. register_chain (y / 2) (now.registers k)) hit;
-    after = set_at_here chain k fresh;
-    some_fresh = omega arith;
-    head = let b = backup_new in omega arith;
-    mine = (class_n, words_n, register_next (then.registers k) (wide_register p es (length es) k history), tt);
-    known = λ i g f. subst (IsNode p) (one_at (record { node = n; words = then.registers k ++ 0 ∷ [] }) g i f) is_node;
-    others = λ j ne. (backup_else p ws (backup_at p k) (2 * n + 1) j (λ _. backup_one p j k ne), set_at_else chain k j fresh ne);
-    into = λ m has. ap class' (sym (one_there n m has)) ∙ class_new;
-    out = λ m has none. ap class' (sym (one_there (x / 2) m has)) ∙ class_gone;
-    class = λ m none none'. class_else m (one_else n m none') (one_else (x / 2) m none);
-    node = λ m. node_low p ws (backup_at p k) (2 * n + 1) m (backup_low p k is_cell);
-    word = λ w. claim_else p ws (backup_at p k) (2 * n + 1) w (λ lt. claim_apart p k w lt);
+    before = chain_is ∙ sym parts;
+    after = set_at_here W.chain k (fresh ++ kept);
+    some_fresh = some_fresh;
+    head = let b = backup_new in let f = fresh_head in omega arith;
+    mine = linked_chained W (Own id) fresh (link kept 0) class_fresh (λ i g f. (fresh_own i g f).1) may.linked;
+    known = λ i g f. (fresh_own i g f).0;
+    others = λ j ne. (set_at_else W.backup k j (2 * n + 1) ne, set_at_else W.chain k j (fresh ++ kept) ne);
+    into = λ i is. cond-true (has (nodes_of fresh) i) (Live k) (cond (has (nodes_of dropped) i) (Retired id) (W.class i)) is;
+    out = λ i is none. cond-false (has (nodes_of fresh) i) (Live k) (cond (has (nodes_of dropped) i) (Retired id) (W.class i)) none
+        ∙ cond-true (has (nodes_of dropped) i) (Retired id) (W.class i) is;
+    class = λ i none none'. cond-false (has (nodes_of fresh) i) (Live k) (cond (has (nodes_of dropped) i) (Retired id) (W.class i)) none'
+        ∙ cond-false (has (nodes_of dropped) i) (Retired id) (W.class i) none;
+    node = λ i. refl;
+    word = λ w. refl;
     guard = λ w. refl;
   }
 
   cells_agree : CellsAgree p W'
-  cells_agree = exchange_cells exchange (h.cells.cell k is_cell) h.cells
-      (λ j ne l. ap (λ (c : Contents). c.registers j) (state_next log e) ∙ else_same p now call j l (λ q. ne (sym q ∙ on)))
-      (λ _. let b = backup_new in let m : n ≡ backup_word p ws' k / 2 = omega arith in ap (λ y. register_chain y (then.registers k)) m)
+  cells_agree = exchange_cells exchange cell m.rule.cells records_then edits.1
 
-  retired_once : Once (v.retired ++ x / 2 ∷ [])
-  retired_once = once-append v.retired (x / 2 ∷ []) o.nodes.retired_once (refl, tt)
-      (λ m gone is. let e : Retired id ≡ Live k = sym (o.nodes.retired m gone) ∙ (ap class (sym (one_there (x / 2) m is)) ∙ class_old) in cc)
+  retired_once : Once (v.retired ++ nodes_of dropped)
+  retired_once = once-append v.retired (nodes_of dropped) o.nodes.retired_once
+      (once_parts (nodes_of dropped) (nodes_of kept) (subst Once (nodes_of-append dropped kept) (chained_once W (Live k) (dropped ++ kept) chained))).0
+      (λ m gone is. let e : Retired id ≡ Live k = sym (o.nodes.retired m gone) ∙ class_dropped m is in cc)
 
   abbrev pub winning : View
   winning = won_view k x n call log v
 
+  -- all that was seen, and the entry
+  whole : es ≡ v.seen ++ (o.seen.rest ++ e ∷ [])
+  whole = ap (λ l. l ++ e ∷ []) o.seen.whole ∙ append_assoc v.seen o.seen.rest (e ∷ [])
+
+  -- the records that the stand finds at its place
+  at_place : records_at p (take (length log) es) (cell_of p call) ≡ rs
+  at_place = ap (λ (l : List Entry). records_at p l (cell_of p call)) (take-append_seam log (e ∷ [])) ∙ records_on
+
+  new_nodes : SeatNodes p W'.class W'.node id winning.own winning.retired
+  new_nodes = exchange_nodes exchange cell v.own winning.own v.retired winning.retired o.nodes (without_all_at (nodes_of fresh) v.own) (once-without_all (nodes_of fresh) v.own o.nodes.once)
+      retired_once (has-append v.retired (nodes_of dropped))
+
+  new_stock : IsStock p (length v.numbers) es winning.stands (length winning.own + length winning.retired) winning.removes
+  new_stock = stock_push (changing log call v) (length winning.own + length winning.retired) winning.removes
+      (stock_seen o (o.seen.rest ++ e ∷ []) es whole)
+      (subst (λ (l : List (List ℕ)). length winning.own + length winning.retired + cost_of (length l) (edit_of l call) ≡ length v.own + length v.retired + gain_of (length l)
+      (edit_of l call)) (sym at_place)
+      (omega (
+        arith,
+        edit_stock (length rs) edit within,
+        dropped_long,
+        fresh_long,
+        length-append v.retired (nodes_of dropped),
+        length-nodes_of dropped,
+        length-nodes_of fresh,
+        length-without_all (nodes_of fresh) v.own may.once o.nodes.once may.own,
+      )))
+      (let t = may.removes in omega arith)
+
+  new_trail : IsTrail winning.since winning.trail es
+  new_trail = let made = counted_step (BackupExchange k x n) x (length es) in subst (λ (i : ℕ). IsTrail i (v.trail ++ made ∷ []) es) (length-append v.trail (made ∷ []))
+      (trail_stand (trail_step es made o.trail (o.seen.rest ++ e ∷ [], whole) (le_refl (length es))))
+
+  head_there : (2 * n + 1) / 2 < nodes p
+  head_there = let f = at_has v.own n (may.own n (head_has fresh n some_fresh fresh_head)) in
+      let low : n < nodes p = subst (λ i. i < nodes p) f.3 (o.nodes.there f.0 f.1 f.2).there in omega arith
+
   new_seat : SeatOk p W' id winning
-  new_seat =
-      let b = backup_new in
-      let step_made = counted (BackupExchange k x n) x (length es) in
-      let further : es ≡ v.seen ++ (o.seen.rest ++ e ∷ []) = ap (λ l. l ++ e ∷ []) o.seen.whole ∙ append_assoc v.seen o.seen.rest (e ∷ []) in
-      let first = has_first v.numbers numbered in record {
-        plan = o.plan;
-        numbers = record { held = o.numbers.held; below = o.numbers.below; once = o.numbers.once };
-        nodes = exchange_nodes exchange (h.cells.cell k is_cell) v.own (without n v.own) v.retired (v.retired ++ x / 2 ∷ []) o.nodes
-            (λ i g f. let q = without_at n v.own i g f in (q.0, q.1, one_not n g.node q.2))
-            (once-without n v.own o.nodes.once)
-            retired_once
-            (has-append v.retired (x / 2 ∷ []));
-        stock = omega (arith, o.stock, length-without n v.own o.nodes.once may.own, length-append v.retired (x / 2 ∷ []));
-        removes = o.removes;
-        seen = record { rest = []; whole = sym (append-nil es); own = λ y has. tt };
-        earlier = goes_further v.earlier v.seen es (o.seen.rest ++ e ∷ []) o.earlier further;
-        trail = subst (λ (m : ℕ). IsTrail m (v.trail ++ step_made ∷ []) es) (length-append v.trail (step_made ∷ [])) (trail_stand v.since (v.trail ++ step_made ∷ []) es (trail_step v.since v.trail v.seen es step_made o.trail (o.seen.rest ++ e ∷ [], further) (le_refl (length es))));
-        lawful = lawful_change p.seats v log call (subst (λ (q : List Entry). Lawful p.seats v.numbers q v.stands) (sym o.seen.whole) (lawful_more p.seats v.numbers v.seen o.seen.rest v.stands o.seen.own o.lawful)) first changes;
-        look = seat_look p W' es (look_at k (2 * n + 1) (length es)) (record { cell = inside; there = let low : n < nodes p = subst (λ m. m < nodes p) mine.3 (o.nodes.node mine.0 mine.1 mine.2).there in omega arith; at = le_refl (length es) }) (record { same = λ _. b });
-        claims = exchange_claims exchange (h.cells.cell k is_cell) v.numbers (number v) v.seen o.seen.rest v.claims o.seen.whole o.claims;
-        scan = exchange_scan exchange (h.cells.cell k is_cell) v.scan v.retired (v.retired ++ x / 2 ∷ []) (λ m has. has_left v.retired (x / 2 ∷ []) m has) o.scan;
-      }
+  new_seat = record {
+    plan = o.plan;
+    numbers = o.numbers;
+    nodes = new_nodes;
+    stock = new_stock;
+    seen = record { rest = []; whole = sym (append-nil es); own = λ y has. tt };
+    earlier = goes_further v.earlier v.seen es (o.seen.rest ++ e ∷ []) o.earlier whole;
+    trail = new_trail;
+    lawful = lawful_change p v log call (lawful_seen o o.seen.rest log o.seen.whole o.seen.own) (has_first v.numbers m.numbered) changes;
+    look = look_now p W'.backup es k (2 * n + 1) inside head_there backup_new;
+    claims = exchange_claims exchange cell v.numbers (number v) v.seen o.seen.rest v.claims o.seen.whole o.claims;
+    scan = record {
+      sound = record { old = λ i is. has_left v.retired (nodes_of dropped) i (o.scan.sound.old i is); counted = o.scan.sound.counted; within = o.scan.sound.within };
+      found = o.scan.found;
+    };
+  }
 
-  pub wins : HoldsAt p ws' (set vs id winning) class' chain' holder guard es
-  wins = let left = may.left in advance p ws vs class class' chain chain' holder guard guard log es (e ∷ []) id v winning (backup_at p k) (2 * n + 1) h at
-      (λ s u ne there. exchange_leaves exchange (h.cells.cell k is_cell) s u ne (h.seats s u there)) new_seat cells_agree (exchange_guards exchange (h.cells.cell k is_cell) h.guards) history (omega (arith, length-append log (e ∷ [])))
-
-  pub wins_sound : Sound winning
-  wins_sound = sound_at p ws' (set vs id winning) class' chain' holder guard es id winning wins (set_found vs id v winning at) numbered
+  pub wins : Made m ws' winning
+  wins = let left = may.left in advance m ws' now W' (e ∷ []) winning (record {
+    is = is;
+    wide = length-set m.ws (backup_at p k) (2 * n + 1) ∙ m.rule.wide;
+    own = new_seat;
+    others = exchange_leaves exchange cell;
+    cells = cells_agree;
+    guards = m.rule.guards;
+    history = history;
+    budget = omega (arith, length-append log (e ∷ []));
+  })
 
   pub wins_told : Wins k x n call v winning
   wins_told = record {
@@ -281,84 +348,32 @@ module _ {p : Plan} {ws : List ℕ} {vs : List View} {class : ℕ → Class} {ch
     after = refl;
     rest = o.seen.rest;
     seen = o.seen.whole;
-    calm = λ y f. subst (λ (q : Plan × ℕ). NoneOn q.0 k (drop q.1 log)) (λ i. (sym ours i, at_same y f i)) calm;
+    calm = λ y f. subst (λ (q : Claim). NoneOn p k (drop q.at log)) (some-injective may.back y (sym may.claimed ∙ f)) calm;
   }
-    where
-      at_same : (y : Claim) → get_elem? v.claims BACK ≡ some y → may.back.at ≡ y.at
-      at_same y f = ap (λ (q : Claim). q.at) (some-injective may.back y (sym may.claimed ∙ f))
 
--- the words of a step tell its cell and its node
-same_cell : (p q : Plan) (k j : ℕ) → q ≡ p → backup_at p k ≡ backup_at q j → k ≡ j
-same_cell p q k j ours e = let f = ap (λ r. backup_at r j) ours in omega arith
+same_node : (n j : ℕ) → 2 * n + 1 ≡ 2 * j + 1 → n ≡ j
+same_node n j e = omega arith
 
-same_node : (n m : ℕ) → 2 * n + 1 ≡ 2 * m + 1 → n ≡ m
-same_node n m e = omega arith
-
-module _ (p : Plan) (slots id : ℕ) (me : Mine) (k x n : ℕ) (call : Call) (numbered : 0 < length me.0.numbers) (ours : me.0.plan ≡ p) (may : MayExchange k x n call me.0)
-    (s : State Call View) (r : Holds p s) (at : get_elem? s.views id ≡ some me.0) where
-  abbrev y : ℕ
-  y = get_or s.words (backup_at p k) 0
-
-  abbrev Kept : ℕ → Type 0
-  Kept z = (w : View) × (a : Act Call) × Valid s.homes me.1 a × Holds p (stepped s (backup_at p k) z id me.1 w a) × exchanged call (step slots (backup_at p k) x (2 * n + 1) none) me y (w, carried_after me.1 a)
-
-  inside_here : k < p.registers
-  inside_here = register_inside id r.at at may
-
-  named : y ≡ backup_word p s.words k
-  named = let l = inside_here in backup_is p s.words k (omega arith)
-
-  hits : y ≡ x → Kept (2 * n + 1)
-  hits hit =
-      let found : backup_word p s.words k ≡ x = sym named ∙ hit in
-      let w : View = winning id r.at at numbered may found in (
-        w,
-        keeps,
-        tt,
-        record {
-          class = class' id r.at at numbered may found;
-          chain = chain' id r.at at numbered may found;
-          holder = r.holder;
-          guard = r.guard;
-          log = es id r.at at numbered may found;
-          at = wins id r.at at numbered may found;
-        },
-        (
-          refl,
-          wins_sound id r.at at numbered may found,
-          λ j m word second. (
-            λ _. subst (λ (q : ℕ × ℕ). Wins q.0 x q.1 call me.0 w)
-                (λ i. (same_cell p me.0.plan k j ours word i, same_node n m second i))
-                (wins_told id r.at at numbered may found),
-            λ miss. absurd (miss hit),
-          ),
-        ),
-      )
-
-  abbrev lost : View
-  lost = seeing id (BackupExchange k x n) k r.at at numbered inside_here
-
-  -- the word found is another, and the exchange is a look
-  misses : y ≢ x → Kept y
-  misses miss = (
-    lost,
-    keeps,
-    tt,
-    record { class = r.class; chain = r.chain; holder = r.holder; guard = r.guard; log = r.log; at = sees_holds id (BackupExchange k x n) k r.at at numbered inside_here },
-    (
-      refl,
-      sees_sound id (BackupExchange k x n) k r.at at numbered inside_here,
-      λ j m word second. (
-        λ hit. absurd (miss hit),
-        λ _. subst (λ (q : ℕ × ℕ × ℕ). Looks (BackupExchange q.0 x q.1) q.0 q.2 me.0 lost)
-            (λ i. (same_cell p me.0.plan k j ours word i, same_node n m second i, sym named i))
-            (sees_told id (BackupExchange k x n) k r.at at numbered inside_here),
-      ),
-    ),
-  )
-
-pub exchanges : (p : Plan) (slots id : ℕ) (me : Mine) (k x n : ℕ) (call : Call) → 0 < length me.0.numbers → me.0.plan ≡ p → MayExchange k x n call me.0
-    → Allows (Holds p) slots id me (backup_at p k) (λ y. either (y == x) (2 * n + 1) y) (exchanged call (step slots (backup_at p k) x (2 * n + 1) none) me)
-exchanges p slots id me k x n call numbered ours may s r homes at small =
-    by_hit (get_or s.words (backup_at p k) 0) x (2 * n + 1) (Kept p slots id me k x n call numbered ours may s r at)
-    (hits p slots id me k x n call numbered ours may s r at) (misses p slots id me k x n call numbered ours may s r at)
+pub exchanges : (slots id : ℕ) (me : Mine) (k x n : ℕ) (call : Call) → 0 < length me.0.numbers → MayExchange k x n call me.0
+    → Allows (Holds me.0.plan) slots id me (backup_at me.0.plan k) (λ y. either (y == x) (2 * n + 1) y) (exchanged call (step slots (backup_at me.0.plan k) x (2 * n + 1) none) me)
+exchanges slots id me k x n call numbered may s r _ at _ =
+    let v = me.0 in
+    let m = moment id me numbered s r at in
+    let place = backup_at v.plan k in
+    let inside = cell_inside m may in
+    let named = backup_is v.plan s.words k inside in
+    let lost = seeing m (BackupExchange k x n) k inside in
+    by_hit (get_or s.words place 0) x (2 * n + 1)
+    (λ (z : ℕ). (w : View) × (a : Act Call) × Valid s.homes me.1 a × Holds v.plan (stepped s place z id me.1 w a)
+    × exchanged call (step slots place x (2 * n + 1) none) me (get_or s.words place 0) (w, carried_after me.1 a))
+    (λ hit. let found : backup_word v.plan s.words k ≡ x = sym named ∙ hit in let w = winning m may found in
+    store_owed id me numbered s r at _ place (2 * n + 1) w (wins m may found) refl numbered (λ j i word second. (
+      λ _. subst (λ (q : ℕ × ℕ). Wins q.0 x q.1 call v w) (λ t. (one_cell v.plan k j word t, same_node n i second t)) (wins_told m may found),
+      λ miss. absurd (miss hit),
+    )))
+    -- the word found is another, and the exchange is a look
+    (λ miss. load_owed id me numbered s r at _ place lost (sees m (BackupExchange k x n) k inside) refl numbered (λ j i word second. (
+      λ hit. absurd (miss hit),
+      λ _. subst (λ (q : ℕ × ℕ × ℕ). Looks (BackupExchange q.0 x q.1) q.0 q.2 v lost) (λ t. (one_cell v.plan k j word t, same_node n i second t, sym named t))
+          (sees_told m (BackupExchange k x n) k inside),
+    )))

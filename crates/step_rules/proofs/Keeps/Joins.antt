@@ -1,6 +1,7 @@
 -- JOIN keeps the rule.
-use Rattle.std.proofs.Common.{Bool, cond, ◌≡◌, ◌≢◌, ℕ, ◌*◌, ◌<◌, ◌≤◌, true, false, List, [], ◌∷◌, ◌++◌, length, set, eqb, ltb, eq-eqb, ne_eqb, refl, sym, ap, ◌∙◌, subst, arith, ⊎_elim, if◌then◌else◌, ◌==◌, length-append, append_assoc}
-use Rattle.std.proofs.Math.Nat.{mul-add}
+use Rattle.std.proofs.Common.{◌+◌, Bool, cond, ◌≡◌, ◌≢◌, ℕ, ◌<◌, ◌≤◌, true, false, List, [], ◌∷◌, ◌++◌, length, set, eqb, ltb, eq-eqb, ne_eqb, refl, sym, ap}
+use Rattle.std.proofs.Common.{◌∙◌, subst, arith, ⊎_elim}
+use Rattle.std.proofs.Common.{if◌then◌else◌, ◌==◌, length-append, append_assoc}
 use Rattle.std.proofs.lemmas.Bool.{cases_Bool, cases_lt, cond-true, cond-false, lt-ltb, le-ltb, false≢true}
 use Rattle.std.proofs.lemmas.List.{append-nil}
 use mathlib.Core.Option.{some}
@@ -13,22 +14,24 @@ use Rattle.step_rules.specs.History.{GoesOn, NoneBy}
 use Rattle.step_rules.specs.Lawful.{Lawful}
 use Rattle.step_rules.specs.Looks.{SeatLook}
 use Rattle.step_rules.specs.Nodes.{SeatNodes}
-use Rattle.step_rules.specs.Rule.{Holds, HoldsAt, world_of}
+use Rattle.step_rules.specs.Rule.{Holds, HoldsAt}
 use Rattle.step_rules.specs.Scans.{SeatScan}
 use Rattle.step_rules.specs.Seats.{SeatOk}
+use Rattle.step_rules.specs.Stock.{IsStock}
 use Rattle.step_rules.specs.Views.{joined_view, longer, number, shorter, spent_view}
-use Rattle.step_rules.specs.World.{Class, Live, Once, Own, Retired, World, has, nodes_of}
+use Rattle.step_rules.specs.World.{Class, Live, Once, Own, Retired, World, has, nodes_of, Unwritten}
 use Rattle.step_rules.specs.declared.plan.Plan.{Plan}
 use Rattle.step_rules.specs.declared.view.Claim.{Claim}
-use Rattle.step_rules.specs.declared.view.Held.{Held}
 use Rattle.step_rules.specs.declared.view.View.{View}
-use Rattle.step_rules.proofs.Advance.{total_set}
+use Rattle.step_rules.proofs.Moments.{Moment, moment, total_set, world}
 use Rattle.step_rules.proofs.Claimed.{claims_sound_more}
-use Rattle.step_rules.proofs.Lawfuls.{lawful_join, lawful_more}
+use Rattle.step_rules.proofs.Lawfuls.{lawful_join}
 use Rattle.step_rules.proofs.Sets.{at_has, has-append, has_left, nodes_of-append, once-append, first_number}
 use Rattle.step_rules.proofs.Silent.{Quiet, claims_quiet, no_claims, no_claims_quiet, no_claims_sound, unclaimed}
+use Rattle.step_rules.proofs.Stocks.{stock_join}
+use Rattle.step_rules.proofs.Seeing.{lawful_seen, stock_seen}
 use Rattle.step_rules.proofs.Trails.{no_trail, trail_more, trail_stand}
-use Rattle.step_rules.proofs.Handing.{cells_still, seat_still}
+use Rattle.step_rules.proofs.Handing.{Hands, handed_cells, handed_seat}
 use Rattle.step_rules.proofs.Places.{at_append}
 
 -- of two first parts of one list, the longer goes on from both
@@ -105,59 +108,70 @@ moved_comes id other t (Retired s) f e = ⊎_elim
     (λ q. sym (cond-false (eqb s other) (Retired id) (Retired s) q) ∙ e)
     (cases_Bool (eqb s other))
 
--- JOIN
-module _ (p : Plan) (id other : ℕ) (v w : View) (numbered : 0 < length v.numbers) (quiet : Quiet w.claims)
-    (ws : List ℕ) (vs : List View) (class : ℕ → Class) (chain : ℕ → List Held) (holder guard : ℕ → ℕ) (log : List Entry) (h : HoldsAt p ws vs class chain holder guard log)
-    (at : get_elem? vs id ≡ some v) (apart : ¬ (other ≡ id)) (at_other : get_elem? vs other ≡ some w) where
+-- JOIN: the seat of the moment takes in the seat other, whose claims name no node
+module _ (m : Moment) (other : ℕ) (w : View) (at_other : get_elem? m.vs other ≡ some w) (apart : ¬ (other ≡ m.id)) (quiet : Quiet w.claims) where
+  abbrev p : Plan
+  p = m.view.plan
+
+  abbrev id : ℕ
+  id = m.id
+
+  abbrev v : View
+  v = m.view
+
+  abbrev U : Unwritten
+  U = m.unwritten
+
   abbrev joined : View
   joined = joined_view v w
 
   abbrev class_joined : ℕ → Class
-  class_joined n = moved id other (class n)
+  class_joined n = moved id other (U.class n)
 
   abbrev holder_joined : ℕ → ℕ
-  holder_joined x = if holder x == other then id else holder x
+  holder_joined x = if U.holder x == other then id else U.holder x
 
-  abbrev join_before : World
-  join_before = world_of p ws class chain holder guard log
+  abbrev pub unwritten_joined : Unwritten
+  unwritten_joined = record U { class = class_joined; holder = holder_joined }
+
+  abbrev W : World
+  W = world m
 
   abbrev join_after : World
-  join_after = world_of p ws class_joined chain holder_joined guard log
+  join_after = record W { class = class_joined; holder = holder_joined }
 
-  first_ok : SeatOk p join_before id v
-  first_ok = h.seats id v at
+  first_ok : SeatOk p W id v
+  first_ok = m.rule.seats id v m.at
 
-  second_ok : SeatOk p join_before other w
-  second_ok = h.seats other w at_other
+  second_ok : SeatOk p W other w
+  second_ok = m.rule.seats other w at_other
 
   back : id ≢ other
   back e = apart (sym e)
 
-  class_joined_stays : (n : ℕ) (c : Class) → c ≢ Own other → c ≢ Retired other → class n ≡ c → class_joined n ≡ c
-  class_joined_stays n c f g e = ap (moved id other) e ∙ moved_stays id other c f g
-
-  class_joined_comes : (n t : ℕ) → class n ≢ Own other → class_joined n ≡ Own t → class n ≡ Own t
-  class_joined_comes n t f e = moved_comes id other t (class n) f e
-
-  holder_joined_stays : (s x : ℕ) → s ≢ other → holder x ≡ s → holder_joined x ≡ s
-  holder_joined_stays s x f e = cond-false (eqb (holder x) other) id (holder x) (ne_eqb (holder x) other (λ q. f (sym e ∙ q))) ∙ e
+  hands : Hands W other class_joined holder_joined
+  hands = record {
+    stays = λ n c f g e. ap (moved id other) e ∙ moved_stays id other c f g;
+    taken = λ g n t stands f e. moved_comes id other t (U.class n) f e;
+    held = λ s x f e. cond-false (eqb (U.holder x) other) id (U.holder x) (ne_eqb (U.holder x) other (λ q. f (sym e ∙ q))) ∙ e;
+  }
 
   -- what the seat other has becomes the seat's
-  own_moves : (n : ℕ) → class n ≡ Own other → class_joined n ≡ Own id
+  own_moves : (n : ℕ) → U.class n ≡ Own other → class_joined n ≡ Own id
   own_moves n e = ap (moved id other) e ∙ cond-true (eqb other other) (Own id) (Own other) (eq-eqb other other refl)
 
-  retired_moves : (n : ℕ) → class n ≡ Retired other → class_joined n ≡ Retired id
+  retired_moves : (n : ℕ) → U.class n ≡ Retired other → class_joined n ≡ Retired id
   retired_moves n e = ap (moved id other) e ∙ cond-true (eqb other other) (Retired id) (Retired other) (eq-eqb other other refl)
 
-  holder_moves : (x : ℕ) → holder x ≡ other → holder_joined x ≡ id
-  holder_moves x e = cond-true (eqb (holder x) other) id (holder x) (eq-eqb (holder x) other e)
+  holder_moves : (x : ℕ) → U.holder x ≡ other → holder_joined x ≡ id
+  holder_moves x e = cond-true (eqb (U.holder x) other) id (U.holder x) (eq-eqb (U.holder x) other e)
 
-  third_ok : (s : ℕ) (u : View) → s ≢ other → get_elem? vs s ≡ some u → SeatOk p join_after s u
-  third_ok s u f e = seat_still p ws class class_joined chain holder holder_joined guard log other class_joined_stays class_joined_comes holder_joined_stays s u f (h.seats s u e)
+  third_ok : (s : ℕ) (u : View) → s ≢ other → get_elem? m.vs s ≡ some u → SeatOk p join_after s u
+  third_ok s u f e = handed_seat p W other class_joined holder_joined hands s u f (m.rule.seats s u e)
 
   -- what the rule still says of the first seat's view
   kept_ok : SeatOk p join_after id v
-  kept_ok = third_ok id v back at
+  kept_ok = third_ok id v back m.at
 
   seen_both : Longer v.seen w.seen first_ok.seen.rest second_ok.seen.rest
   seen_both = longer_is v.seen w.seen first_ok.seen.rest second_ok.seen.rest (sym first_ok.seen.whole ∙ second_ok.seen.whole)
@@ -176,20 +190,20 @@ module _ (p : Plan) (id other : ℕ) (v w : View) (numbered : 0 < length v.numbe
   nodes_apart n e g =
       let a = at_has v.own n e in
       let b = at_has w.own n g in
-      let c : class n ≡ Own id = ap class (sym a.3) ∙ first_ok.nodes.class a.0 a.1 a.2 in
-      let d : class n ≡ Own other = ap class (sym b.3) ∙ second_ok.nodes.class b.0 b.1 b.2 in
+      let c : U.class n ≡ Own id = ap U.class (sym a.3) ∙ first_ok.nodes.mine a.0 a.1 a.2 in
+      let d : U.class n ≡ Own other = ap U.class (sym b.3) ∙ second_ok.nodes.mine b.0 b.1 b.2 in
       back cc
 
   retired_apart : (n : ℕ) → has v.retired n ≡ true → has w.retired n ≡ true → ⊥
   retired_apart n e g =
-      let c : class n ≡ Retired id = first_ok.nodes.retired n e in
-      let d : class n ≡ Retired other = second_ok.nodes.retired n g in
+      let c : U.class n ≡ Retired id = first_ok.nodes.retired n e in
+      let d : U.class n ≡ Retired other = second_ok.nodes.retired n g in
       back cc
 
-  joined_nodes : SeatNodes p join_after id (v.own ++ w.own) (v.retired ++ w.retired)
+  joined_nodes : SeatNodes p class_joined W.node id (v.own ++ w.own) (v.retired ++ w.retired)
   joined_nodes = record {
-    node = λ i x e. ⊎_elim (λ q. first_ok.nodes.node i x q) (λ q. second_ok.nodes.node q.0 x q.2) (at_append v.own w.own i x e);
-    class = λ i x e. ⊎_elim (λ q. kept_ok.nodes.class i x q) (λ q. own_moves x.node (second_ok.nodes.class q.0 x q.2)) (at_append v.own w.own i x e);
+    there = λ i x e. ⊎_elim (λ q. first_ok.nodes.there i x q) (λ q. second_ok.nodes.there q.0 x q.2) (at_append v.own w.own i x e);
+    mine = λ i x e. ⊎_elim (λ q. kept_ok.nodes.mine i x q) (λ q. own_moves x.node (second_ok.nodes.mine q.0 x q.2)) (at_append v.own w.own i x e);
     words = λ i x e. ⊎_elim (λ q. first_ok.nodes.words i x q) (λ q. second_ok.nodes.words q.0 x q.2) (at_append v.own w.own i x e);
     once = subst Once (sym (nodes_of-append v.own w.own)) (once-append (nodes_of v.own) (nodes_of w.own) first_ok.nodes.once second_ok.nodes.once nodes_apart);
     retired_once = once-append v.retired w.retired first_ok.nodes.retired_once second_ok.nodes.retired_once retired_apart;
@@ -197,61 +211,68 @@ module _ (p : Plan) (id other : ℕ) (v w : View) (numbered : 0 < length v.numbe
     retired_there = λ n e. ⊎_elim (λ q. first_ok.nodes.retired_there n q) (λ q. second_ok.nodes.retired_there n q) (has-append v.retired w.retired n e);
   }
 
-  joined_lawful : Lawful p.seats (v.numbers ++ w.numbers) (longer v.seen w.seen) (v.stands ++ w.stands)
-  joined_lawful = lawful_join p.seats v.numbers w.numbers (longer v.seen w.seen) v.stands w.stands
-      (subst (λ l. Lawful p.seats v.numbers l v.stands) (sym seen_both.after_first) (lawful_more p.seats v.numbers v.seen seen_both.first v.stands (λ x e. (none_first x e).0) first_ok.lawful))
-      (subst (λ l. Lawful p.seats w.numbers l w.stands) (sym seen_both.after_second) (lawful_more p.seats w.numbers w.seen seen_both.second w.stands (λ x e. (none_second x e).0) second_ok.lawful))
+  joined_lawful : Lawful p (v.numbers ++ w.numbers) (longer v.seen w.seen) (v.stands ++ w.stands)
+  joined_lawful = lawful_join (lawful_seen first_ok seen_both.first (longer v.seen w.seen) seen_both.after_first (λ x e. (none_first x e).0))
+      (lawful_seen second_ok seen_both.second (longer v.seen w.seen) seen_both.after_second (λ x e. (none_second x e).0))
       numbers_apart
+
+  joined_stock : IsStock p (length (v.numbers ++ w.numbers)) (longer v.seen w.seen) (v.stands ++ w.stands) (length (v.own ++ w.own) + length (v.retired ++ w.retired)) (v.removes + w.removes)
+  joined_stock = subst (λ (z : ℕ × ℕ). IsStock p z.0 (longer v.seen w.seen) (v.stands ++ w.stands) z.1 (v.removes + w.removes)) (λ i. (sym (length-append v.numbers w.numbers) i, sums i))
+      (stock_join (stock_seen first_ok seen_both.first (longer v.seen w.seen) seen_both.after_first)
+      (stock_seen second_ok seen_both.second (longer v.seen w.seen) seen_both.after_second))
+    where
+      sums : (length v.own + length v.retired) + (length w.own + length w.retired) ≡ length (v.own ++ w.own) + length (v.retired ++ w.retired)
+      sums = omega (arith, length-append v.own w.own, length-append v.retired w.retired)
 
   -- the first seat's claims stay its claims, and nothing stands in the other seat's words
   joined_claims : SeatClaims p join_after id (v.numbers ++ w.numbers) (number v) (longer v.seen w.seen) v.claims
   joined_claims = let k = kept_ok.claims in record {
-    sound = subst (λ l. ClaimsSound p l v.claims) (sym seen_both.after_first) (claims_sound_more p v.seen seen_both.first v.claims k.sound);
-    word = λ c x _ e. k.word c x numbered e;
-    guard = λ c x _ e. k.guard c x numbered e;
-    others = λ x c e ne lt. ⊎_elim (λ q. k.others x c q ne lt) (λ q. unclaimed p join_before other w second_ok quiet x c q lt) (has-append v.numbers w.numbers x e);
+    sound = subst (λ l. ClaimsSound p l v.claims) (sym seen_both.after_first) (claims_sound_more seen_both.first k.sound);
+    word = λ c x _ e. k.word c x m.numbered e;
+    guard = λ c x _ e. k.guard c x m.numbered e;
+    others = λ x c e ne lt. ⊎_elim (λ q. k.others x c q ne lt) (λ q. unclaimed p W other w second_ok quiet x c q lt) (has-append v.numbers w.numbers x e);
     none_spent = λ c n x none. absurd (omega (arith, length-append v.numbers w.numbers));
     image = k.image;
     kept = k.kept;
     calm = k.calm;
+    pages = k.pages;
   }
 
-  joined_scan : SeatScan p join_after v.scan (v.retired ++ w.retired)
+  joined_scan : SeatScan p W.guard v.scan (v.retired ++ w.retired)
   joined_scan = let k = kept_ok.scan in record {
     sound = record { old = λ n e. has_left v.retired w.retired n (k.sound.old n e); counted = k.sound.counted; within = k.sound.within };
     found = k.found;
   }
 
   -- more of the history is seen
-  joined_look : SeatLook p join_after (longer v.seen w.seen) v.look
+  joined_look : SeatLook p W.backup U.log (longer v.seen w.seen) v.look
   joined_look = record {
-    is = λ l e. let i = first_ok.look.is l e in record { cell = i.cell; there = i.there; at = let a = i.at in omega (arith, ap (length {A = Entry}) seen_both.after_first, length-append v.seen seen_both.first) };
+    is = λ l e. let i = first_ok.look.is l e in
+        record { cell = i.cell; there = i.there; at = let a = i.at in omega (arith, ap (length {A = Entry}) seen_both.after_first, length-append v.seen seen_both.first) };
     holds = kept_ok.look.holds;
   }
 
   joined_ok : SeatOk p join_after id joined
   joined_ok = record {
-    plan = λ _. first_ok.plan numbered;
+    plan = λ _. first_ok.plan m.numbered;
     numbers = record {
       held = λ x e. ⊎_elim (λ q. kept_ok.numbers.held x q) (λ q. holder_moves x (second_ok.numbers.held x q)) (has-append v.numbers w.numbers x e);
       below = λ x e. ⊎_elim (λ q. first_ok.numbers.below x q) (λ q. second_ok.numbers.below x q) (has-append v.numbers w.numbers x e);
       once = once-append v.numbers w.numbers first_ok.numbers.once second_ok.numbers.once numbers_apart;
     };
     nodes = joined_nodes;
-    stock = let a = first_ok.stock in let b = second_ok.stock in
-        omega (arith, length-append v.own w.own, length-append v.retired w.retired, ap (λ n. p.share * n) (length-append v.numbers w.numbers), mul-add p.share (length v.numbers) (length w.numbers));
-    removes = let a = first_ok.removes in let b = second_ok.removes in
-        omega (arith, ap (λ n. p.removes * n) (length-append v.numbers w.numbers), mul-add p.removes (length v.numbers) (length w.numbers));
+    stock = joined_stock;
     seen = record {
       rest = seen_both.rest;
-      whole = first_ok.seen.whole ∙ (ap (λ l. v.seen ++ l) seen_both.of_first ∙ (sym (append_assoc v.seen seen_both.first seen_both.rest) ∙ ap (λ l. l ++ seen_both.rest) (sym seen_both.after_first)));
+      whole = first_ok.seen.whole
+          ∙ (ap (λ l. v.seen ++ l) seen_both.of_first ∙ (sym (append_assoc v.seen seen_both.first seen_both.rest) ∙ ap (λ l. l ++ seen_both.rest) (sym seen_both.after_first)));
       own = λ x e. ⊎_elim (λ q. (none_first x q).1) (λ q. (none_second x q).1) (has-append v.numbers w.numbers x e);
     };
     earlier = shorter_first v.seen w.seen (longer v.seen w.seen) (seen_both.first, seen_both.after_first) (seen_both.second, seen_both.after_second);
     lawful = joined_lawful;
-    trail = trail_stand v.since v.trail (longer v.seen w.seen) (trail_more v.since v.trail v.seen (longer v.seen w.seen) first_ok.trail (seen_both.first, seen_both.after_first));
+    trail = trail_stand (trail_more (longer v.seen w.seen) first_ok.trail (seen_both.first, seen_both.after_first));
     look = joined_look;
-    claims = subst (λ l. SeatClaims p join_after id (v.numbers ++ w.numbers) l (longer v.seen w.seen) v.claims) (sym (first_number v.numbers w.numbers numbered)) joined_claims;
+    claims = subst (λ l. SeatClaims p join_after id (v.numbers ++ w.numbers) l (longer v.seen w.seen) v.claims) (sym (first_number v.numbers w.numbers m.numbered)) joined_claims;
     scan = joined_scan;
   }
 
@@ -259,10 +280,18 @@ module _ (p : Plan) (id other : ℕ) (v w : View) (numbered : 0 < length v.numbe
   spent_ok = record {
     plan = λ e. absurd (omega arith);
     numbers = record { held = λ x e. absurd (false≢true e); below = λ x e. absurd (false≢true e); once = tt };
-    nodes = record { node = λ i x e. absurd cc; class = λ i x e. absurd cc; words = λ i x e. absurd cc; once = tt; retired_once = tt; retired = λ n e. absurd (false≢true e); retired_there = λ n e. absurd (false≢true e) };
-    stock = omega arith;
-    removes = omega arith;
-    seen = record { rest = log; whole = refl; own = λ x e. absurd (false≢true e) };
+    nodes = record {
+      there = λ i x e. absurd cc;
+      mine = λ i x e. absurd cc;
+      words = λ i x e. absurd cc;
+      once = tt;
+      retired_once = tt;
+      retired = λ n e. absurd
+          (false≢true e);
+      retired_there = λ n e. absurd (false≢true e);
+    };
+    stock = record { even = omega arith; removed = omega arith };
+    seen = record { rest = U.log; whole = refl; own = λ x e. absurd (false≢true e) };
     earlier = ([], refl);
     lawful = record { right = λ i s e. absurd cc; by = λ i s e. absurd cc; rising = λ i j d a b. absurd (omega arith); made = λ x e. absurd (false≢true e) };
     trail = no_trail [];
@@ -271,35 +300,35 @@ module _ (p : Plan) (id other : ℕ) (v w : View) (numbered : 0 < length v.numbe
     scan = record { sound = record { old = λ n e. absurd (false≢true e); counted = omega arith; within = omega arith }; found = λ i n lt g e. absurd (omega arith) };
   }
 
-  each_joined : (s : ℕ) (u : View) → get_elem? (set (set vs id joined) other spent_view) s ≡ some u → SeatOk p join_after s u
+  each_joined : (s : ℕ) (u : View) → get_elem? (set (set m.vs id joined) other spent_view) s ≡ some u → SeatOk p join_after s u
   each_joined s u e = ⊎_elim
       (λ (q : (s ≡ other) × (spent_view ≡ u)). subst (λ (z : ℕ × View). SeatOk p join_after z.0 z.1) (λ i. (sym q.0 i, q.1 i)) spent_ok)
-      (λ (t : (s ≢ other) × (get_elem? (set vs id joined) s ≡ some u)). ⊎_elim
+      (λ (t : (s ≢ other) × (get_elem? (set m.vs id joined) s ≡ some u)). ⊎_elim
       (λ (q : (s ≡ id) × (joined ≡ u)). subst (λ (z : ℕ × View). SeatOk p join_after z.0 z.1) (λ i. (sym q.0 i, q.1 i)) joined_ok)
-      (λ (q : (s ≢ id) × (get_elem? vs s ≡ some u)). third_ok s u t.0 q.1)
-      (at_set vs id s joined u t.1))
-      (at_set (set vs id joined) other s spent_view u e)
+      (λ (q : (s ≢ id) × (get_elem? m.vs s ≡ some u)). third_ok s u t.0 q.1)
+      (at_set m.vs id s joined u t.1))
+      (at_set (set m.vs id joined) other s spent_view u e)
 
-  join_holds : HoldsAt p ws (set (set vs id joined) other spent_view) class_joined chain holder_joined guard log
+  join_holds : HoldsAt p m.ws (set (set m.vs id joined) other spent_view) unwritten_joined
   join_holds = record {
-    plan = h.plan;
-    wide = h.wide;
-    history = h.history;
-    cells = cells_still p ws class class_joined chain holder holder_joined guard log other class_joined_stays class_joined_comes holder_joined_stays h.cells;
-    guards = record { word = h.guards.word; within = h.guards.within };
+    plan = m.rule.plan;
+    wide = m.rule.wide;
+    history = m.rule.history;
+    cells = handed_cells p W other class_joined holder_joined hands m.rule.cells;
+    guards = m.rule.guards;
     seats = each_joined;
-    budget = let b = h.budget in omega (arith, total_set (λ (u : View). u.changes) vs id v joined at, total_set (λ (u : View). u.changes) (set vs id joined) other w spent_view (set_else vs id other joined apart ∙ at_other));
+    budget = let b = m.rule.budget in
+        omega (
+          arith,
+          total_set (λ (u : View). u.changes) m.vs id v joined m.at,
+          total_set (λ (u : View). u.changes) (set m.vs id joined) other w spent_view
+              (set_else m.vs id other joined apart ∙ at_other),
+        );
   }
 
-pub joins : (p : Plan) (id other : ℕ) (v w : View) → 0 < length v.numbers → ((c : ℕ) (x : Claim) → get_elem? w.claims c ≡ some x → x.word ≡ 0) → Joins (Holds p) id v other w (joined_view v w) spent_view
-joins p id other v w numbered quiet s r at apart at_set_other = record {
-  class = class_joined p id other v w numbered quiet s.words s.views r.class r.chain r.holder r.guard r.log r.at at apart at_other;
-  chain = r.chain;
-  holder = holder_joined p id other v w numbered quiet s.words s.views r.class r.chain r.holder r.guard r.log r.at at apart at_other;
-  guard = r.guard;
-  log = r.log;
-  at = join_holds p id other v w numbered quiet s.words s.views r.class r.chain r.holder r.guard r.log r.at at apart at_other;
-}
-  where
-    at_other : get_elem? s.views other ≡ some w
-    at_other = sym (set_else s.views id other (joined_view v w) apart) ∙ at_set_other
+pub joins : (p : Plan) (id other : ℕ) (v w : View) → v.plan ≡ p → 0 < length v.numbers → ((c : ℕ) (x : Claim) → get_elem? w.claims c ≡ some x → x.word ≡ 0)
+    → Joins (Holds p) id v other w (joined_view v w) spent_view
+joins p id other v w ours numbered quiet = subst (λ q. Joins (Holds q) id v other w (joined_view v w) spent_view) ours (λ s r at apart at_set_other.
+    let m = moment id (v, []) numbered s r at in
+    let at_other : get_elem? s.views other ≡ some w = sym (set_else s.views id other (joined_view v w) apart) ∙ at_set_other in
+    record { unwritten = unwritten_joined m other w at_other apart quiet; at = join_holds m other w at_other apart quiet })

@@ -1,16 +1,14 @@
 -- Looks at a cell's backup, and exchanges of it.
-use Rattle.std.specs.Prelude.{◌≡◌, ◌≢◌, ℕ, ◌/◌, ◌<◌, true, List, [], ◌∷◌, ◌++◌, Some, drop}
+use Rattle.std.specs.Prelude.{◌≡◌, ◌≢◌, ℕ, ◌/◌, ◌<◌, ◌≤◌, true, List, ◌++◌, Some, drop, length}
 use mathlib.Core.Option.{some}
 use lib.ListN.{get_elem?}
-use Rattle.seat_history.specs.Change.{is_change}
-use Rattle.seat_history.specs.History.{state_at}
-use Rattle.seat_history.specs.Step.{contents_after}
 use Rattle.seat_history.specs.declared.call.Call.{Call}
 use Rattle.seat_history.specs.declared.entry.Entry.{Entry}
 use Rattle.step_rules.specs.Claims.{BACK, OWN, On, Tells}
-use Rattle.step_rules.specs.History.{IsWide, NoneOn, cell_of}
-use Rattle.step_rules.specs.Views.{looked_view, won_view, words_in}
-use Rattle.step_rules.specs.World.{has, nodes_of}
+use Rattle.step_rules.specs.History.{IsThere, IsWide, NoneOn, cell_of}
+use Rattle.step_rules.specs.Records.{dropped_count, fresh_records, is_change_in, records_of, removes_of}
+use Rattle.step_rules.specs.Views.{claimed_edit, claimed_records, fresh_of, kept_of, looked_view, won_view}
+use Rattle.step_rules.specs.World.{Linked, Once, has, link, nodes_of}
 use Rattle.step_rules.specs.declared.view.Claim.{Claim}
 use Rattle.step_rules.specs.declared.view.Kind.{Kind}
 use Rattle.step_rules.specs.declared.view.Look.{Look}
@@ -23,11 +21,12 @@ pub record Looks (kind : Kind) (k x : ℕ) (v w : View) : Type 0 where
   pub after : w ≡ looked_view kind k x log v
   pub rest : List Entry
   pub seen : log ≡ v.seen ++ rest
-  pub moved : (l : Look) → v.look ≡ Some l → l.cell ≡ k → x ≢ l.word → ¬ NoneOn v.plan k (drop l.at log)
+  pub moved : (l : Look) → v.look ≡ Some l → l.cell ≡ k → x / 2 ≢ l.word / 2 → ¬ NoneOn v.plan k (drop l.at log)
+  pub falls : (l : Look) → v.look ≡ Some l → l.cell ≡ k → NoneOn v.plan k (drop l.at log) → x ≤ l.word
   pub calm : (c n : ℕ) (y : Claim) → get_elem? v.claims c ≡ some y → Tells c → On y n → y.cell ≡ k → x / 2 ≡ n → NoneOn v.plan k (drop y.at log)
 
 -- what an exchange of the cell k from the word x to the own node n asks of its seat, for a call: its Back claim stands on the node of x, and
--- its Own claim on n
+-- its Own claim on n; own nodes from n on are the front that the call makes, linked to what it keeps of the claimed chain
 pub record MayExchange (k x n : ℕ) (call : Call) (v : View) : Type 0 where
   pub back : Claim
   pub claimed : get_elem? v.claims BACK ≡ some back
@@ -37,13 +36,21 @@ pub record MayExchange (k x n : ℕ) (call : Call) (v : View) : Type 0 where
   pub announced : get_elem? v.claims OWN ≡ some mine
   pub guarded : On mine n
   pub on : cell_of v.plan call ≡ k
-  pub changes : is_change (state_at v.seen back.at) call ≡ true
+  pub there : IsThere v.plan call
+  pub changes : is_change_in (claimed_records v) call ≡ true
   pub wide : IsWide call
-  pub own : has (nodes_of v.own) n ≡ true
-  pub words : words_in v.own n ≡ (contents_after (state_at v.seen back.at) call).registers k ++ 0 ∷ []
+  pub own : (m : ℕ) → has (nodes_of (fresh_of n call v)) m ≡ true → has (nodes_of v.own) m ≡ true
+  pub once : Once (nodes_of (fresh_of n call v))
+  pub linked : Linked (fresh_of n call v) (link (kept_of call v) 0)
+  pub records : records_of (fresh_of n call v) ≡ fresh_records (claimed_records v) (claimed_edit call v)
   pub left : 0 < v.changes
+  pub removes : removes_of call ≤ v.removes
 
--- the exchange won: the register was what it was where the Back claim began to stand
+-- of the claimed chain only the first node falls out by the call
+abbrev pub DropsFirst : Call → View → Type 0
+DropsFirst call v = dropped_count (length (claimed_records v)) (claimed_edit call v) ≡ 1
+
+-- the exchange won: the cell was what it was where the Back claim began to stand
 pub record Wins (k x n : ℕ) (call : Call) (v w : View) : Type 0 where
   pub log : List Entry
   pub after : w ≡ won_view k x n call log v

@@ -25,12 +25,13 @@ pub record MayAnnounce (c n : ℕ) (v : View) : Type 0 where
 -- a recheck of the claim c, which names the node of the word x, found the word y in the cell k with this node: the claim stands
 pub record Claims (c k x y : ℕ) (v w : View) : Type 0 where
   pub words : List ℕ
+  pub pages : List Held
   pub log : List Entry
-  pub after : w ≡ claimed_view c k x y words log v
+  pub after : w ≡ claimed_view c k x y words pages log v
   pub rest : List Entry
   pub seen : log ≡ v.seen ++ rest
   pub claim : IsClaim v.plan log (claim_of c w) (y / 2)
-  pub moved : (l : Look) → v.look ≡ Some l → l.cell ≡ k → y ≢ l.word → ¬ NoneOn v.plan k (drop l.at log)
+  pub moved : (l : Look) → v.look ≡ Some l → l.cell ≡ k → y / 2 ≢ l.word / 2 → ¬ NoneOn v.plan k (drop l.at log)
 
 -- a recheck, of a claim on Back or Hold
 pub record Rechecks (c k x y : ℕ) (v w : View) : Type 0 where

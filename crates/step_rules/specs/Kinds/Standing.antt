@@ -14,7 +14,7 @@ use Rattle.step_rules.specs.declared.view.View.{View}
 
 -- the stand of a call at the place q is right, it is no change, and it comes after its caller's stands
 pub record MayStand (q : ℕ) (call : Call) (reply : Reply) (v : View) : Type 0 where
-  pub right : IsRight v.plan.seats v.seen v.stands (reading q call reply v)
+  pub right : IsRight v.plan v.seen v.stands (reading q call reply v)
   pub above : (i : ℕ) (s : Stand) → get_elem? v.stands i ≡ some s → Below s (reading q call reply v)
 
 -- a step of this kind looks at the cell k

@@ -1,11 +1,11 @@
-ghost use Rattle.std.specs.Prelude.{◌≡◌, ◌≢◌, ◌<◌, true};
-ghost use Rattle.step_rules.specs.Kinds.Backup.{MayExchange};
+ghost use Rattle.std.specs.Prelude.{◌≡◌, ◌≢◌, ◌<◌};
+ghost use Rattle.step_rules.specs.Kinds.Backup.{DropsFirst, MayExchange};
+ghost use Rattle.step_rules.specs.Layout.{cells};
 ghost use Rattle.step_rules.specs.SeatData.{IsOf};
-ghost use Rattle.step_rules.specs.Steps.{Sees, Won};
-ghost use Rattle.step_rules.specs.World.{has};
+ghost use Rattle.step_rules.specs.Records.{removes_of};
+ghost use Rattle.step_rules.specs.Steps.{HoldsFront, Sees, Won};
 ghost use Rattle.step_rules.specs.declared.view.Kind.TheVariants.{BackupExchange, BackupLoad};
 
-use crate::lists::take_out;
 use crate::place::Telling;
 use crate::plays::{Exchanges, Looks};
 use crate::seat::Seat;
@@ -13,10 +13,10 @@ use crate::shared::Shared;
 use seat_history::Call;
 use std::marker::Brand;
 
-/// Looks at the backup of a register.
+/// Looks at the backup of a cell.
 pub fn backup_load(shared: &Shared, seat: &mut Seat, cell: u32) -> u64
     requires ours { IsOf shared.now seat.old }
-    requires there { cell < shared.now.plan.registers }
+    requires there { cell < cells shared.now.plan }
     ensures seat { Sees (BackupLoad cell) cell result seat.old seat.new }
 {
     seat.fresh = false;
@@ -35,7 +35,8 @@ fn exchange_told<T: Telling>(
     requires told { call ≡ T.call }
     requires ours { IsOf shared.now seat.old }
     requires may { MayExchange cell seen node call seat.old.view }
-    requires held { has seat.old.holding node ≡ true }
+    requires front { HoldsFront node call seat.old }
+    requires first { DropsFirst call seat.old.view }
     ensures won { result ≡ seen → Won cell seen node call seat.old seat.new }
     ensures lost { result ≢ seen → Sees (BackupExchange cell seen node) cell result seat.old seat.new }
 {
@@ -50,15 +51,27 @@ fn exchange_told<T: Telling>(
         return found;
     }
     seat.changes -= 1;
-    take_out(&mut seat.holding, node);
+    seat.removes -= removes_of(&call);
+    seat.holding.clear();
     seat.retired.push_reserved((seen / 2) as u32);
     found
 }
 
-/// Exchanges the backup of a register from a word whose node the seat's Back claim stands on to a held
-/// and announced node, with its mark set, for a call that changes the register's record to that of the
-/// node. It won exactly where it answers that word; then the call is the last of the history, and the
-/// node that fell out is retired.
+// How many removes a call spends.
+fn removes_of(call: &Call) -> u32
+    ensures { result ≡ removes_of call.now }
+{
+    match call {
+        Call::Remove { key: _ } => 1,
+        _ => 0,
+    }
+}
+
+/// Exchanges the backup of a cell from a word whose node the seat's Back claim stands on to a held and
+/// announced node, with its mark set, for a call that changes the claimed records. The held nodes,
+/// linked from that one on, are the front that the call makes, and of the claimed chain only the first
+/// node falls out. It won exactly where it answers that word; then the call is the last of the
+/// history, the held nodes are the cell's, and the node that fell out is retired.
 pub fn backup_exchange(
     shared: &Shared,
     seat: &mut Seat,
@@ -69,7 +82,8 @@ pub fn backup_exchange(
 ) -> u64
     requires ours { IsOf shared.now seat.old }
     requires may { MayExchange cell seen node call seat.old.view }
-    requires held { has seat.old.holding node ≡ true }
+    requires front { HoldsFront node call seat.old }
+    requires first { DropsFirst call seat.old.view }
     ensures won { result ≡ seen → Won cell seen node call seat.old seat.new }
     ensures lost { result ≢ seen → Sees (BackupExchange cell seen node) cell result seat.old seat.new }
 {

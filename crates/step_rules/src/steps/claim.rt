@@ -1,8 +1,10 @@
-ghost use Rattle.std.specs.Prelude.{◌≡◌, ◌<◌, ◌+◌, ◌/◌};
-ghost use Rattle.step_rules.specs.Claims.{Tells};
+ghost use Rattle.std.specs.Prelude.{◌≡◌, ◌<◌};
+ghost use Rattle.step_rules.specs.Claims.{Tells, WALK};
+ghost use Rattle.step_rules.specs.Kinds.Walking.{MayRecheck};
+ghost use Rattle.step_rules.specs.Layout.{cells};
 ghost use Rattle.step_rules.specs.SeatData.{IsOf};
-ghost use Rattle.step_rules.specs.Steps.{IsRechecked, MayClaim, stepped};
-ghost use Rattle.step_rules.specs.Views.{announced_view, claim_of, cleared_view};
+ghost use Rattle.step_rules.specs.Steps.{IsRechecked, IsWalked, MayClaim, stepped};
+ghost use Rattle.step_rules.specs.Views.{announced_view, cleared_view};
 ghost use Rattle.step_rules.specs.declared.layout.TheConstants.{CLAIMS};
 
 use crate::place::Rechecking;
@@ -37,10 +39,10 @@ fn recheck_told<R: Rechecking>(
 ) -> u64
     requires told { (claim ≡ R.claim) × (seen ≡ R.seen) }
     requires ours { IsOf shared.now seat.old }
-    requires there { cell < shared.now.plan.registers }
-    requires tells { Tells claim }
-    requires named { (claim_of claim seat.old.view).word ≡ seen / 2 + 1 }
-    ensures seat { IsRechecked claim cell seen result seat.old seat.new }
+    requires there { cell < cells shared.now.plan }
+    requires may { MayRecheck claim cell seen seat.old.view }
+    ensures told { Tells claim → IsRechecked claim cell seen result seat.old seat.new }
+    ensures walked { claim ≡ WALK → IsWalked cell seen result seat.old seat.new }
 {
     seat.fresh = false;
     let place = shared.backup_place(cell);
@@ -50,14 +52,15 @@ fn recheck_told<R: Rechecking>(
         .load::<Rechecks<R>>(&mut seat.inner, place)
 }
 
-/// Looks at the backup of a register again, after the claim on Back or Hold was announced for the node
-/// of `seen`. Where it names the same node, with either mark, the claim stands from then on.
+/// Looks at the backup of a cell again, after the claim on Back or Hold was announced for the node
+/// of `seen`, or the claim on Walk for a link of the chain that this node heads, on which the claim
+/// on Back stands. Where it names the same node, with either mark, the claim stands from then on.
 pub fn recheck_load(shared: &Shared, seat: &mut Seat, claim: u32, cell: u32, seen: u64) -> u64
     requires ours { IsOf shared.now seat.old }
-    requires there { cell < shared.now.plan.registers }
-    requires tells { Tells claim }
-    requires named { (claim_of claim seat.old.view).word ≡ seen / 2 + 1 }
-    ensures seat { IsRechecked claim cell seen result seat.old seat.new }
+    requires there { cell < cells shared.now.plan }
+    requires may { MayRecheck claim cell seen seat.old.view }
+    ensures told { Tells claim → IsRechecked claim cell seen result seat.old seat.new }
+    ensures walked { claim ≡ WALK → IsWalked cell seen result seat.old seat.new }
 {
     recheck_told::<Brand>(shared, seat, claim, cell, seen)
 }

@@ -1,21 +1,47 @@
-use Rattle.std.proofs.Common.{◌*◌, ◌∙◌, refl, replicate, subst, sym, vec_capacity, true, false}
+use Rattle.std.proofs.Common.{◌*◌, ◌∙◌, refl, replicate, subst, sym, ap, true, false, arith}
+use Rattle.std.proofs.Math.Nat.{mul_comm}
 use Rattle.atomic_table.specs.Table.{Me}
 use Rattle.seat_history.specs.declared.call.Call.{Call}
+use Rattle.step_rules.proofs.Opens.{number_first, starts_fresh}
+use Rattle.step_rules.proofs.Sets.{length-count_up}
+use Rattle.step_rules.proofs.Tied.{new_whole}
+use Rattle.step_rules.specs.Sound.{Sound}
+use Rattle.step_rules.specs.Views.{starting}
 use Rattle.step_rules.specs.declared.layout.TheConstants.{CLAIMS}
 use Rattle.step_rules.specs.declared.view.View.{View}
-use Rattle.step_rules.proofs.Opens.{number_first, starts_scan, starts_tied}
-use Rattle.step_rules.proofs.Sets.{length-count_up}
-use Rattle.step_rules.proofs.Tied.{IsWhole}
 use Rattle.step_rules.proofs.opening.first_seat.Goals as goal
 
 pub invariant_of-result : goal.invariant_of-result
-invariant_of-result c = let p = c.args.plan.now in subst (λ (me : Me Call View). IsWhole me 0 p.seats true true false (p.changes * c.from.result) (p.removes * p.seats) c.args.free.items c.args.holding.items c.args.retired.items (replicate CLAIMS 0) 0 0 c.args.scan_found.items
-    (vec_capacity c.args.free) (vec_capacity c.args.holding) (vec_capacity c.args.retired) (vec_capacity c.args.scan_found)) (sym c.requires.view) (
-      starts_tied p c.args.free.items c.args.holding.items (replicate CLAIMS 0) (vec_capacity c.args.free) (vec_capacity c.args.holding) (vec_capacity c.args.retired) c.requires.sound c.requires.free c.requires.none.0 refl
-          (c.requires.room.0, c.requires.room.1, c.requires.room.2),
-      sym (number_first p.seats),
-      (λ i. p.changes * (c.from.ensures ∙ sym (length-count_up 0 p.seats)) i),
-      (λ i. p.removes * sym (length-count_up 0 p.seats) i),
-      c.requires.none.1,
-      starts_scan p c.args.scan_found.items (vec_capacity c.args.scan_found) c.requires.none.2 c.requires.room.3,
-    )
+invariant_of-result c = let p = c.args.plan.now in let swapped = mul_comm p.share p.seats in let room = c.requires.room in new_whole (record {
+  inner = c.args.inner;
+  least = 0;
+  numbers = p.seats;
+  first = true;
+  fresh = true;
+  holds_record = false;
+  changes = p.changes * c.from.result;
+  removes = p.removes * p.seats;
+  free = c.args.free;
+  holding = c.args.holding;
+  retired = c.args.retired;
+  claims = replicate CLAIMS 0;
+  scan_next = 0;
+  scan_old = 0;
+  scan_found = c.args.scan_found;
+}) (starting p) c.requires.view (subst (λ (me : Me Call View). Sound me.0) (sym c.requires.view) c.requires.sound) (record {
+  fresh = starts_fresh p c.args.free.items c.args.holding.items c.requires.free c.requires.none.0;
+  numbers = sym (length-count_up 0 p.seats);
+  least = sym (number_first p.seats);
+  no_record = refl;
+  changes = ap (λ n. p.changes * n) (c.from.ensures ∙ sym (length-count_up 0 p.seats));
+  removes = ap (λ n. p.removes * n) (sym (length-count_up 0 p.seats));
+  retired = c.requires.none.1;
+  claims = refl;
+  scan_next = refl;
+  scan_old = refl;
+  scan_found = c.requires.none.2;
+  room_free = omega (arith, room.0);
+  room_holding = omega (arith, room.1);
+  room_retired = omega (arith, room.2);
+  room_found = room.3;
+})

@@ -10,4 +10,5 @@ pub of_words-requires : goal.of_words-requires
 of_words-requires c = opens c.args.plan.now c.as_slice.result.now c.requires.plan (subst (IsStart c.args.plan.now) (sym c.as_slice.ensures.value) c.in_ok-words.ensures.start)
 
 pub returns-clause-sound : goal.returns-clause-sound
-returns-clause-sound c = IfOk-weaker c.of_words.result _ (λ _. Sound (starting c.args.plan.now)) (λ _ _. starts_sound c.args.plan.now c.in_ok-words.words.items c.requires.plan c.in_ok-words.ensures.start) c.of_words.ensures
+returns-clause-sound c = IfOk-weaker c.of_words.result _ (λ _. Sound (starting c.args.plan.now))
+    (λ _ _. starts_sound c.args.plan.now c.in_ok-words.words.items c.requires.plan c.in_ok-words.ensures.start) c.of_words.ensures

@@ -1,5 +1,5 @@
 use Rattle.std.proofs.Common.{◌≡◌, ◌≤◌, vec_len}
-use Rattle.step_rules.specs.Layout.{backup_at, cells, words}
+use Rattle.step_rules.specs.Layout.{cells, words}
 use Rattle.step_rules.proofs.Opens.{IsSet}
 use Rattle.step_rules.proofs.opening.first_words.Given as goal
 
@@ -7,7 +7,6 @@ abbrev pub invariant-loop-cell : goal.invariant-loop-cell
 invariant-loop-cell l = record {
   to : l.cell ≤ cells l.fn.plan;
   end : l.cell-end ≡ cells l.fn.plan;
-  place : l.place ≡ backup_at l.fn.plan l.cell;
   long : vec_len l.words ≡ words l.fn.plan;
   set : IsSet l.fn.plan l.words.items l.cell;
 }

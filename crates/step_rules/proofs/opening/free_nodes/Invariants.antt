@@ -9,5 +9,5 @@ invariant-loop-node l = record {
   end : l.node-end ≡ l.fn.layout.nodes;
   items : l.free.items ≡ count_up l.fn.layout.cells (l.node - l.fn.layout.cells);
   long : vec_len l.free ≡ l.node - l.fn.layout.cells;
-  room : vec_capacity l.free ≡ l.fn.layout.nodes - l.fn.layout.cells;
+  room : vec_capacity l.free ≡ l.fn.room;
 }

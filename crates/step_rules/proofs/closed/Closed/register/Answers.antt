@@ -17,25 +17,33 @@ use Rattle.step_rules.proofs.closed.Closed.register.Goals as goal
 abbrev data_of : Inside → ClosedData
 data_of s = record { plan = s.plan; history = s.last.view.seen; stands = s.last.view.stands; free = s.free.items; retired = s.retired.items }
 
-at_word : (s : Inside) (seen : ClosedData) (reg x : ℕ) → EndsWith s.plan (slots_items s.words.words) s.last.view.seen → s.cells_start ≡ cells_at s.plan → data_of s ≡ seen → reg < seen.plan.registers
+at_word : (s : Inside) (seen : ClosedData) (reg x : ℕ) → EndsWith s.plan (slots_items s.words.words) s.last.view.seen → s.cells_start ≡ cells_at s.plan → data_of s ≡ seen
+    → reg < seen.plan.registers
     → get_elem? (slots_items s.words.words) (s.cells_start + CELL_WIDTH * reg + 1) ≡ some x → RegisterAt s.plan (slots_items s.words.words) s.last.view.seen reg (x / 2)
 at_word s seen reg x ends start is there found = register_at s.plan (slots_items s.words.words) s.last.view.seen reg (s.cells_start + CELL_WIDTH * reg + 1) x ends
     (subst (λ (z : ClosedData). reg < z.plan.registers) (sym is) there) (λ i. start i + CELL_WIDTH * reg + 1) found
 
 pub overflow_mul-first : goal.overflow_mul-first
-overflow_mul-first c = let k = c.self.invariant in let few = k.4 in let there = (at_word c.self.inside c.args.self.now c.args.reg c.word-backup.result k.2 k.6 c.self.view_is c.requires c.word-backup.ensures).there in omega arith
+overflow_mul-first c = let k = c.self.invariant in let few = k.4 in
+    let there = (at_word c.self.inside c.args.self.now c.args.reg c.word-backup.result k.2 k.6 c.self.view_is c.requires c.word-backup.ensures).there in omega arith
 
 pub overflow_add-first : goal.overflow_add-first
-overflow_add-first c = let k = c.self.invariant in let there = (at_word c.self.inside c.args.self.now c.args.reg c.word-backup.result k.2 k.6 c.self.view_is c.requires c.word-backup.ensures).there in let start = k.7 in
+overflow_add-first c = let k = c.self.invariant in
+    let there = (at_word c.self.inside c.args.self.now c.args.reg c.word-backup.result k.2 k.6 c.self.view_is c.requires c.word-backup.ensures).there in let start = k.7 in
     let place = node_within c.self.inside.plan (c.word-backup.result / 2) 0 there (omega arith) in let fit = words_fit c.self.inside.plan k.5 k.4 in omega arith
 
 pub overflow_add-first-in-loop-j : goal.overflow_add-first-in-loop-j
-overflow_add-first-in-loop-j c = let k = c.self.invariant in let there = (at_word c.self.inside c.args.self.now c.args.reg c.word-backup.result k.2 k.6 c.self.view_is c.requires c.word-backup.ensures).there in let start = k.7 in let j = c.loop-j-test.true in
+overflow_add-first-in-loop-j c = let k = c.self.invariant in
+    let there = (at_word c.self.inside c.args.self.now c.args.reg c.word-backup.result k.2 k.6 c.self.view_is c.requires c.word-backup.ensures).there in let start = k.7 in
+    let j = c.loop-j-test.true in
     let place = node_within c.self.inside.plan (c.word-backup.result / 2) c.loop-j.j there (omega arith) in let fit = words_fit c.self.inside.plan k.5 k.4 in omega arith
 
 pub word-requires : goal.word-requires
-word-requires c = let k = c.self.invariant in let there = (at_word c.self.inside c.args.self.now c.args.reg c.word-backup.result k.2 k.6 c.self.view_is c.requires c.word-backup.ensures).there in let start = k.7 in let j = c.loop-j-test.true in
-    let place = node_within c.self.inside.plan (c.word-backup.result / 2) c.loop-j.j there (omega arith) in let wide = k.2.wide in let count = (slots_counts c.self.inside.words.words).0 in (omega arith, k.0)
+word-requires c = let k = c.self.invariant in
+    let there = (at_word c.self.inside c.args.self.now c.args.reg c.word-backup.result k.2 k.6 c.self.view_is c.requires c.word-backup.ensures).there in let start = k.7 in
+    let j = c.loop-j-test.true in
+    let place = node_within c.self.inside.plan (c.word-backup.result / 2) c.loop-j.j there (omega arith) in let wide = k.2.wide in let count = (slots_counts c.self.inside.words.words).0 in
+    (omega arith, k.0)
 
 pub loop-j-preserved : goal.loop-j-preserved
 loop-j-preserved c = let k = c.self.invariant in let i = c.loop-j.invariant in let j = c.loop-j-test.true in let wide = i.wide in record {

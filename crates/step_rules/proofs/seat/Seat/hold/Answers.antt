@@ -20,7 +20,7 @@ push_reserved-requires c = let s = c.self.inside in let t = c.self.invariant.0 i
 pub invariant_of-self : goal.invariant_of-self
 invariant_of-self c = let s = c.self.inside in let i = c.self.invariant in let out = c.take_out.ensures in let push = c.push_reserved.ensures in
     let free' = c.take_out.new.list.items in let holding' = c.push_reserved.new.self.items in (
-      tied_lists i.0 free' holding' _ _ (λ m h. i.0.own_free m (was_there c.args.node m s.free.items free' out.without h))
+      tied_lists s c.take_out.new.list c.push_reserved.new.self i.0 (λ m h. i.0.own_free m (was_there c.args.node m s.free.items free' out.without h))
           (moved_times c.args.node s.free.items free' s.holding.items holding' out.without push.items)
           (moved_length c.args.node s.free.items free' s.holding.items holding' out.without push.items)
           out.capacity push.capacity

@@ -15,7 +15,7 @@ push_reserved-requires c = let s = c.self.inside in let t = c.self.invariant.0 i
 pub invariant_of-self : goal.invariant_of-self
 invariant_of-self c = let s = c.self.inside in let i = c.self.invariant in let out = c.take_out.ensures in let push = c.push_reserved.ensures in
     let free' = c.push_reserved.new.self.items in let holding' = c.take_out.new.list.items in (
-      tied_lists i.0 free' holding' _ _
+      tied_lists s c.push_reserved.new.self c.take_out.new.list i.0
           (λ m h. ⊎_elim
           (i.0.own_free m)
           (λ e. subst (λ (z : ℕ × SeatData). IsUnannounced z.0 z.1.view) (λ k. (one_there c.args.node m e k, sym c.self.view_is k)) c.requires.unannounced)

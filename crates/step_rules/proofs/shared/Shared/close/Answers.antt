@@ -1,6 +1,6 @@
 use Rattle.std.proofs.Common.{◌≡◌, ◌<◌, true, length, ℕ, ◌+◌, List, [], ◌∙◌, ap, subst, sym}
 use Rattle.std.specs.Mem.Slots.{slots_items}
-use Rattle.step_rules.specs.Closing.{EndsWith}
+use Rattle.step_rules.specs.Closing.{EndsWith, live_nodes}
 use Rattle.step_rules.specs.History.{IsHistory}
 use Rattle.step_rules.specs.Lawful.{Lawful}
 use Rattle.step_rules.specs.Layout.{nodes}
@@ -37,8 +37,9 @@ module _ (c : goal.After-drop-seat-inside-2) where
   last_is : c.new-last.result.view ≡ c.args.seat.view
   last_is = c.new-last.ensures.1 ∙ ap (λ (z : SeatData). z.view) c.seat.view_is
 
-  counted : length c.seat.inside.free.items + c.self.inside.plan.registers + length c.seat.inside.retired.items ≡ nodes c.self.inside.plan
-  counted = none_lost c.self.inside.plan c.seat.inside c.seat.invariant none seat_plan c.self.invariant.7 all
+  counted : length c.seat.inside.free.items + live_nodes c.self.inside.plan c.new-last.result.view.seen + length c.seat.inside.retired.items ≡ nodes c.self.inside.plan
+  counted = subst (λ (v : View). length c.seat.inside.free.items + live_nodes c.self.inside.plan v.seen + length c.seat.inside.retired.items ≡ nodes c.self.inside.plan) last_view
+      (none_lost c.self.inside.plan c.seat.inside c.seat.invariant none seat_plan all)
 
 pub invariant_of-result : goal.invariant_of-result
 invariant_of-result c = let k = c.self.invariant in (
@@ -50,6 +51,7 @@ invariant_of-result c = let k = c.self.invariant in (
   k.0,
   k.4,
   k.5,
+  subst (λ (v : View). IsHistory c.self.inside.plan v.seen) (last_view c) (closing c).history,
 )
 
 pub returns : goal.returns
@@ -62,8 +64,8 @@ returns c = record {
     retired = c.seat.invariant.4 ∙ ap (λ (z : SeatData). z.view.retired) c.seat.view_is;
     whole = subst (λ (v : View). IsHistory c.self.inside.plan v.seen) (last_view c) (closing c).history;
     callers = subst (λ (z : SeatData). (x : ℕ) → x < c.self.inside.plan.seats → has z.view.numbers x ≡ true) c.seat.view_is (closing c).callers;
-    lawful = subst (λ (z : SeatData × View). Lawful c.self.inside.plan.seats z.0.view.numbers z.1.seen z.1.stands) (λ i. (c.seat.view_is i, last_view c i)) (closing c).lawful;
-    line = subst (λ (v : View). InOneLine c.self.inside.plan.seats v.seen v.stands) (last_view c) (closing c).line;
+    lawful = subst (λ (z : SeatData × View). Lawful c.self.inside.plan z.0.view.numbers z.1.seen z.1.stands) (λ i. (c.seat.view_is i, last_view c i)) (closing c).lawful;
+    line = subst (λ (v : View). InOneLine c.self.inside.plan v.seen v.stands) (last_view c) (closing c).line;
     counted = counted c;
   };
 }

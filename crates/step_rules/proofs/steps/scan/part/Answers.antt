@@ -36,7 +36,9 @@ loop-i-preserved c =
     (parted_read _ _ _ _ _ _ _ p x inside c.index-node.ensures) c.sort_unstable.ensures.permutation (c.frees.ensures ∙ ap (λ l. ltb c.loop-i.i c.args.old && not (has l x)) c.deref.ensures.value) in
     elim c.if-frees.branch [
       | goal.then-frees w ↦ rw (w.retired-is, w.free-is, w.kept-is) (record {
-        parted = subst (λ l. Parted (frees_first c.args.old c.args.retired.now.items c.args.found.now.items) c.args.retired.now.items c.loop-i.retired.items c.args.free.now.items l c.loop-i.kept (c.loop-i.i + 1)) (sym w.push_reserved.ensures.items)
+        parted = subst
+            (λ l. Parted (frees_first c.args.old c.args.retired.now.items c.args.found.now.items) c.args.retired.now.items c.loop-i.retired.items c.args.free.now.items l c.loop-i.kept
+            (c.loop-i.i + 1)) (sym w.push_reserved.ensures.items)
             (parted_free _ _ _ _ _ _ _ p x inside c.index-node.ensures (tells ∙ w.if-frees.true));
         room_retired = c.loop-i.invariant.room_retired;
         room_free = w.push_reserved.ensures.capacity ∙ c.loop-i.invariant.room_free;
@@ -52,4 +54,5 @@ pub returns-clause-retired : goal.returns-clause-retired
 returns-clause-retired c = c.truncate.ensures.items ∙ FiltersInPlace-all c.loop-i.invariant.parted.kept (omega arith)
 
 pub returns-clause-free : goal.returns-clause-free
-returns-clause-free c = c.loop-i.invariant.parted.freed ∙ ap (λ l. c.args.free.now.items ++ filter (frees_first c.args.old c.args.retired.now.items c.args.found.now.items) l) (take_all _ _ (omega arith))
+returns-clause-free c = c.loop-i.invariant.parted.freed
+    ∙ ap (λ l. c.args.free.now.items ++ filter (frees_first c.args.old c.args.retired.now.items c.args.found.now.items) l) (take_all _ _ (omega arith))
