@@ -1,5 +1,6 @@
 -- A scan as far as its loop has come, and at its end.
-use Rattle.std.proofs.Common.{◌≡◌, ◌≢◌, ℕ, ◌+◌, ◌*◌, ◌/◌, ◌%◌, ◌<◌, ◌≤◌, suc, zero, Bool, true, false, not, ◌&&◌, ◌||◌, List, [], ◌∷◌, ◌++◌, length, map, filter, get_or, set, cond, eqb, eq-eqb, ne_eqb, refl, sym, ap, ◌∙◌, subst, arith, add-one, ◌⊎◌, inl, inr, ⊎_elim, slice_index_or}
+use Rattle.std.proofs.Common.{◌-◌, nat_lt, ◌≡◌, ◌≢◌, ℕ, ◌+◌, ◌*◌, ◌/◌, ◌%◌, ◌<◌, ◌≤◌, suc, zero, Bool, true, false, not, ◌&&◌, ◌||◌, List, [], ◌∷◌, ◌++◌, length, map, filter, get_or, set, cond, eqb, eq-eqb, ne_eqb, refl, sym, ap, ◌∙◌, subst, arith, add-one, ◌⊎◌, inl, inr, ⊎_elim, slice_index_or}
+use Rattle.std.proofs.lemmas.Bool.Decides.{nat_tests}
 use Rattle.std.proofs.lemmas.Bool.{and_parts, cases_eq, eqb-true, or_left, or_right}
 use Rattle.std.proofs.lemmas.List.{append-nil, append_assoc, get_or-set_other, get_or-set_same, get_or_append_left, length-map, map-append}
 use Rattle.std.proofs.Math.Seq.{get_or-append_seam}
@@ -11,8 +12,8 @@ use Rattle.step_rules.specs.Kinds.Claiming.{FindsOwn, MayScan}
 use Rattle.step_rules.specs.Layout.{claim_at}
 use Rattle.step_rules.specs.SeatData.{IsOf, ObjectData, SeatData, all_zero, claim_words, holds_record, is_empty}
 use Rattle.step_rules.specs.Sound.{Sound}
-use Rattle.step_rules.specs.Steps.{IsScanned, found_at, kinds_of, scan_kinds, stepped}
-use Rattle.step_rules.specs.Views.{claim_of, counted, freed_view, is_freed, noted, number, scan_of, scanned_scan, scanned_view, silent}
+use Rattle.step_rules.specs.Steps.{IsScanned, found_at, kinds_of, scan_kinds, stepped, stood_at}
+use Rattle.step_rules.specs.Views.{claim_of, counted, freed_view, is_freed, noted, number, scan_of, scan_step, scanned_scan, scanned_view, silent, stands_in}
 use Rattle.step_rules.specs.World.{Once, has}
 use Rattle.step_rules.specs.declared.layout.TheConstants.{CLAIMS}
 use Rattle.step_rules.specs.declared.view.Claim.{Claim}
@@ -57,33 +58,51 @@ length_kinds : (w n : ℕ) → length (scan_kinds w n) ≡ n
 length_kinds w zero = refl
 length_kinds w (suc n) = ap suc (length_kinds (suc w) n)
 
--- what the first w words were found to be
+-- what the first w words were found to be, and whether a claim of the seat stood in them
 pub record Loads (w : ℕ) (loads : List Counted) (v : View) : Type 0 where
   pub kinds : kinds_of loads ≡ scan_kinds 0 w
   pub own : (i : ℕ) → i < w → FindsOwn i (found_at i loads) v
+  pub stood : (i : ℕ) → i < w → stood_at i loads ≡ stands_in i v
 
 pub no_loads : (v : View) → Loads 0 [] v
-no_loads v = record { kinds = refl; own = λ i below. absurd (omega arith) }
+no_loads v = record { kinds = refl; own = λ i below. absurd (omega arith); stood = λ i below. absurd (omega arith) }
 
-loads_long : (w : ℕ) (loads : List Counted) (v : View) → Loads w loads v → length (map (λ (step : Counted). step.found) loads) ≡ w
-loads_long w loads v so_far = length-map loads (λ (step : Counted). step.found) ∙ (sym (length-map loads (λ (step : Counted). step.kind)) ∙ (ap (length {A = Kind}) so_far.kinds ∙ length_kinds 0 w))
+loads_long : {A : Type 0} (f : Counted → A) (w : ℕ) (loads : List Counted) (v : View) → Loads w loads v → length (map f loads) ≡ w
+loads_long f w loads v so_far = length-map loads f ∙ (sym (length-map loads (λ (step : Counted). step.kind)) ∙ (ap (length {A = Kind}) so_far.kinds ∙ length_kinds 0 w))
 
-abbrev pub one_more : ℕ → ℕ → ℕ → List Counted → List Counted
-one_more w x seen loads = loads ++ counted (ScanLoad w) x seen ∷ []
+abbrev pub one_more : ℕ → ℕ → View → List Counted → List Counted
+one_more w x v loads = loads ++ scan_step w x v ∷ []
 
-words_more : (w x seen : ℕ) (loads : List Counted) → map (λ (step : Counted). step.found) (one_more w x seen loads) ≡ map (λ (step : Counted). step.found) loads ++ x ∷ []
-words_more w x seen loads = map-append (λ (step : Counted). step.found) loads (counted (ScanLoad w) x seen ∷ [])
+words_more : (w x : ℕ) (v : View) (loads : List Counted) → map (λ (step : Counted). step.found) (one_more w x v loads) ≡ map (λ (step : Counted). step.found) loads ++ x ∷ []
+words_more w x v loads = map-append (λ (step : Counted). step.found) loads (scan_step w x v ∷ [])
 
-pub more_loads : (w x seen : ℕ) (loads : List Counted) (v : View) → Loads w loads v → FindsOwn w x v → Loads (suc w) (one_more w x seen loads) v
-more_loads w x seen loads v so_far finds =
-    let words = map (λ (step : Counted). step.found) loads in
-    let long = loads_long w loads v so_far in
+-- what a list says at its last place
+at_end : {A : Type 0} (f : Counted → A) (d : A) (loads : List Counted) (step : Counted) (i w : ℕ) → length (map f loads) ≡ w → i ≡ w → slice_index_or (map f (loads ++ step ∷ [])) i d ≡ f step
+at_end f d loads step i w long last =
+    ap (λ l. slice_index_or l i d) (map-append f loads (step ∷ [])) ∙ (ap (λ j. slice_index_or (map f loads ++ f step ∷ []) j d) (last ∙ sym long) ∙ get_or-append_seam (map f loads) (f step) [] d)
+
+-- and before it
+at_before : {A : Type 0} (f : Counted → A) (d : A) (loads : List Counted) (step : Counted) (i w : ℕ) → length (map f loads) ≡ w → i < w
+    → slice_index_or (map f (loads ++ step ∷ [])) i d ≡ slice_index_or (map f loads) i d
+at_before f d loads step i w long below = ap (λ l. slice_index_or l i d) (map-append f loads (step ∷ [])) ∙ get_or_append_left (map f loads) (f step ∷ []) d i (omega arith)
+
+pub more_loads : (w x : ℕ) (loads : List Counted) (v : View) → Loads w loads v → FindsOwn w x v → Loads (suc w) (one_more w x v loads) v
+more_loads w x loads v so_far finds =
+    let found : Counted → ℕ = λ step. step.found in
+    let stood : Counted → Bool = λ step. step.stood in
+    let long = loads_long found w loads v so_far in
+    let flags = loads_long stood w loads v so_far in
+    let step = scan_step w x v in
     record {
-      kinds = map-append (λ (step : Counted). step.kind) loads (counted (ScanLoad w) x seen ∷ []) ∙ (ap (λ (l : List Kind). l ++ ScanLoad w ∷ []) so_far.kinds ∙ (ap (λ n. scan_kinds 0 w ++ ScanLoad n ∷ []) (omega arith) ∙ sym (kinds_more 0 w)));
+      kinds = map-append (λ (step : Counted). step.kind) loads (step ∷ [])
+          ∙ (ap (λ (l : List Kind). l ++ ScanLoad w ∷ []) so_far.kinds ∙ (ap (λ n. scan_kinds 0 w ++ ScanLoad n ∷ []) (omega arith) ∙ sym (kinds_more 0 w)));
       own = λ i below. ⊎_elim
-          (λ e. subst (λ z. FindsOwn i z v) (sym (ap (λ (l : List ℕ). get_or l i 0) (words_more w x seen loads) ∙ (ap (λ j. get_or (words ++ x ∷ []) j 0) (e ∙ sym long) ∙ get_or-append_seam words x [] 0)))
-          (subst (λ j. FindsOwn j x v) (sym e) finds))
-          (λ ne. subst (λ z. FindsOwn i z v) (sym (ap (λ (l : List ℕ). get_or l i 0) (words_more w x seen loads) ∙ get_or_append_left words (x ∷ []) 0 i (omega arith))) (so_far.own i (omega arith)))
+          (λ e. subst (λ z. FindsOwn i z v) (sym (at_end found 0 loads step i w long e)) (subst (λ j. FindsOwn j x v) (sym e) finds))
+          (λ ne. subst (λ z. FindsOwn i z v) (sym (at_before found 0 loads step i w long (omega arith))) (so_far.own i (omega arith)))
+          (cases_eq i w);
+      stood = λ i below. ⊎_elim
+          (λ e. at_end stood false loads step i w flags e ∙ ap (λ j. stands_in j v) (sym e))
+          (λ ne. at_before stood false loads step i w flags (omega arith) ∙ so_far.stood i (omega arith))
           (cases_eq i w);
     }
 
@@ -151,7 +170,7 @@ module _ (w x : ℕ) (loads : List Counted) (start now new : SeatData) (going : 
   here = after start loads going.scan going.fresh
 
   abbrev more : List Counted
-  more = one_more w x (length start.view.seen) loads
+  more = one_more w x start.view loads
 
   abbrev then_scan : Scan
   then_scan = scanned_scan w x here.view
@@ -160,7 +179,7 @@ module _ (w x : ℕ) (loads : List Counted) (start now new : SeatData) (going : 
   scanned_here = subst (λ z. IsScanned w x z new) going.is scanned
 
   named_then : (n : ℕ) → has then_scan.found n ≡ names n more
-  named_then n = noted_names x n (scan_of w here.view).found (map (λ (step : Counted). step.found) loads) (going.named n) ∙ sym (ap (λ l. has l (n + 1)) (words_more w x (length start.view.seen) loads))
+  named_then n = noted_names x n (scan_of w here.view).found (map (λ (step : Counted). step.found) loads) (going.named n) ∙ sym (ap (λ l. has l (n + 1)) (words_more w x start.view loads))
 
   few_then : length then_scan.found ≤ suc w
   few_then = noted_few x (scan_of w here.view).found w going.few
@@ -169,7 +188,7 @@ module _ (w x : ℕ) (loads : List Counted) (start now new : SeatData) (going : 
   goes_on below = let later = scan_later w (after start more then_scan false).view in record {
     scan = then_scan;
     fresh = false;
-    is = scanned_here.on below ∙ ap (λ t. stepped (record here.view { trail = t; scan = then_scan }) here) (append_assoc start.view.trail loads (counted (ScanLoad w) x (length start.view.seen) ∷ []));
+    is = scanned_here.on below ∙ ap (λ t. stepped (record here.view { trail = t; scan = then_scan }) here) (append_assoc start.view.trail loads (scan_step w x start.view ∷ []));
     next = ap (λ (s : Scan). s.next) later ∙ add-one w;
     old = ap (λ (s : Scan). s.old) later ∙ going.old;
     named = λ n. ap (λ (s : Scan). has s.found n) later ∙ named_then n;
@@ -196,7 +215,7 @@ module _ (w x : ℕ) (loads : List Counted) (start now new : SeatData) (going : 
             let long = ap (length {A = ℕ}) retired in omega (arith, few_then);
         same = scanned_here.same ∙ ap (λ v. stepped v (record start { free = new.free }))
             (subst (λ (u : View). u ≡ record start.view { own = u.own; retired = u.retired; trail = start.view.trail ++ more; scan = u.scan }) (sym f.after)
-            (ap (λ t. record (freed_view f.freed before) { trail = t }) (append_assoc start.view.trail loads (counted (ScanLoad w) x (length start.view.seen) ∷ []))));
+            (ap (λ t. record (freed_view f.freed before) { trail = t }) (append_assoc start.view.trail loads (scan_step w x start.view ∷ []))));
       }
 
 -- the seat with its Walk claim cleared, or as it was
@@ -251,6 +270,14 @@ names_none (x ∷ words) n h =
     let rest = names_none words n (λ i below. h (suc i) (omega arith)) in
     ap (λ (z : Bool × Bool). z.0 || z.1) (λ i. (ne_eqb x (n + 1) (λ e. omega arith) i, rest i))
 
+-- of the own words, whether a claim stands there
+own_stands : (n c : ℕ) (v : View) → number v ≡ n → stands_in (claim_at n c) v ≡ (claim_of c v).stands
+own_stands n c v is =
+    let least = claim_at n 0 in
+    let high : nat_lt (claim_at n c) (claim_at (number v) 0) ≡ false = grind (arith, nat_tests) in
+    let rest : claim_at n c - claim_at (number v) 0 ≡ c = omega arith in
+    ap (λ (z : Bool × ℕ). cond z.0 false (claim_of z.1 v).stands) (λ i. (high i, rest i))
+
 -- a whole scan
 module _ (old start new : SeatData) (loads : List Counted) (sound : Sound old.view) (is_ready : IsReady old start) (loaded : Loads (CLAIMS * old.view.plan.seats) loads start.view) (ended : Ended loads start new) where
   abbrev ready_seat : SeatData
@@ -286,7 +313,7 @@ module _ (old start new : SeatData) (loads : List Counted) (sound : Sound old.vi
       let claims = ap (λ (s : SeatData). s.view.claims) ending.same in
       let trail : new.view.trail ≡ old.view.trail ++ (is_ready.clear ++ loads) = ap (λ (s : SeatData). s.view.trail) ending.same ∙ append_assoc old.view.trail is_ready.clear loads in
       let words = map (λ (step : Counted). step.found) loads in
-      let long : length words ≡ CLAIMS * old.view.plan.seats = loads_long (CLAIMS * old.view.plan.seats) loads ready_seat.view found_words in
+      let long : length words ≡ CLAIMS * old.view.plan.seats = loads_long (λ (step : Counted). step.found) (CLAIMS * old.view.plan.seats) loads ready_seat.view found_words in
       let mine = sound.below (number old.view) (has_first old.view.numbers sound.some_number) in
       record {
         clear = is_ready.clear;
@@ -301,6 +328,7 @@ module _ (old start new : SeatData) (loads : List Counted) (sound : Sound old.vi
         none = λ all quiet. let zero = (and_parts (is_empty old.holding) (all_zero (claim_words old.view)) (and_parts (not (holds_record old.view)) (is_empty old.holding && all_zero (claim_words old.view)) quiet).1).1 in
             ending.retired ∙ filter_none (λ n. names n loads) old.view.retired (λ n. names_none words n (λ i below. found_none all zero i (omega arith)));
         own_words = λ c below. (found_words.own (claim_at (number old.view) c) (omega arith)).least c refl below ∙ ap (λ l. (slice_index_or l c (silent 0)).word) (sym claims);
+        own_stood = λ c below. found_words.stood (claim_at (number old.view) c) (omega arith) ∙ (own_stands (number old.view) c ready_seat.view refl ∙ ap (λ l. (slice_index_or l c (silent 0)).stands) (sym claims));
         same = ending.same ∙ ap (λ (z : List Counted × List Claim). stepped (record old.view {
           own = new.view.own;
           retired = new.view.retired;

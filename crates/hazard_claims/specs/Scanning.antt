@@ -3,7 +3,7 @@ use Rattle.std.specs.Prelude.{◌≡◌, ◌≢◌, ◌<◌, ◌⊎◌, ℕ, ◌
 use Rattle.step_rules.specs.Claims.{WALK}
 use Rattle.step_rules.specs.Layout.{claim_at}
 use Rattle.step_rules.specs.SeatData.{SeatData, is_quiet}
-use Rattle.step_rules.specs.Steps.{found_at, kinds_of, scan_kinds, stepped}
+use Rattle.step_rules.specs.Steps.{found_at, kinds_of, scan_kinds, stepped, stood_at}
 use Rattle.step_rules.specs.Views.{claim_of, cleared_view, counted, number}
 use Rattle.step_rules.specs.World.{has}
 use Rattle.step_rules.specs.declared.layout.TheConstants.{CLAIMS}
@@ -34,6 +34,8 @@ pub record IsScan (old new : SeatData) : Type 0 where
   pub none : length old.view.numbers ≡ old.view.plan.seats → is_quiet old ≡ true → new.view.retired ≡ []
   -- the words found in the seat's own claim words are those that stand there
   pub own_words : (c : ℕ) → c < CLAIMS → found_at (claim_at (number old.view) c) loads ≡ (claim_of c new.view).word
+  -- and a claim stood in them just where one of the seat stands
+  pub own_stood : (c : ℕ) → c < CLAIMS → stood_at (claim_at (number old.view) c) loads ≡ (claim_of c new.view).stands
   pub same : new ≡ stepped (record old.view {
     own = new.view.own;
     retired = new.view.retired;

@@ -1,9 +1,9 @@
-ghost use Rattle.std.specs.Prelude.{◌≡◌, ◌<◌, ◌+◌, ◌/◌};
+ghost use Rattle.std.specs.Prelude.{◌≡◌, ◌<◌};
 ghost use Rattle.hazard_claims.specs.Claiming.{IsAnnounced, IsReleased, Rechecked, claim_number};
-ghost use Rattle.step_rules.specs.Claims.{Tells};
+ghost use Rattle.step_rules.specs.Kinds.Walking.{MayRecheck};
+ghost use Rattle.step_rules.specs.Layout.{cells};
 ghost use Rattle.step_rules.specs.SeatData.{IsOf};
 ghost use Rattle.step_rules.specs.Steps.{MayClaim};
-ghost use Rattle.step_rules.specs.Views.{claim_of};
 
 use crate::answers::Recheck;
 use step_rules::{Seat, Shared, claim_clear, claim_store, recheck_load};
@@ -44,13 +44,13 @@ pub fn announce(shared: &Shared, seat: &mut Seat, claim: Claim, node: u32)
     claim_store(shared, seat, claim.number(), node);
 }
 
-/// Looks at a register's backup again. Same comes exactly where it names the node of `seen`, with
-/// either mark; from then on the claim stands.
+/// Looks at a cell's backup again. Same comes exactly where it names the node of `seen`, with either
+/// mark; from then on the claim stands. On Walk the Back claim stands on that node, and the link that
+/// was announced is on its chain.
 pub fn recheck(shared: &Shared, seat: &mut Seat, claim: Claim, cell: u32, seen: u64) -> Recheck
     requires ours { IsOf shared.now seat.old }
-    requires there { cell < shared.now.plan.registers }
-    requires tells { Tells (claim_number claim) }
-    requires named { (claim_of (claim_number claim) seat.old.view).word ≡ seen / 2 + 1 }
+    requires there { cell < cells shared.now.plan }
+    requires may { MayRecheck (claim_number claim) cell seen seat.old.view }
     ensures rechecked { Rechecked claim cell seen result seat.old seat.new }
 {
     let found = recheck_load(shared, seat, claim.number(), cell, seen);

@@ -1,4 +1,4 @@
-use Rattle.std.proofs.Common.{◌≡◌, ◌<◌, ◌*◌, [], length, sym, ap, ◌∙◌, subst, arith, add-one}
+use Rattle.std.proofs.Common.{◌≡◌, ◌<◌, ◌*◌, [], sym, ap, ◌∙◌, subst, arith, add-one}
 use Rattle.step_rules.specs.declared.layout.TheConstants.{CLAIMS}
 use Rattle.step_rules.specs.declared.plan.Plan.{Plan}
 use Rattle.hazard_claims.proofs.Loading.{Going, Loads, begins, ends, finds_own, going_of, goes_on, may_scan, more_loads, no_loads, one_more, ready, ready_of, ready_once, whole}
@@ -48,9 +48,9 @@ loop-word-preserved c =
     let going = so_far.2 c.loop-word-test.true in
     let plan : c.plan-word-end.result ≡ start.view.plan = c.plan-word-end.ensures ∙ sym (ready_of old start c.args.shared.now is_ready c.requires.ours).plan in
     let seats = ap (λ (p : Plan). p.seats) plan in
-    let more = one_more w x (length start.view.seen) loads in (
+    let more = one_more w x start.view loads in (
       more,
-      subst (λ n. Loads n more start.view) (sym (add-one w)) (more_loads w x (length start.view.seen) loads start.view so_far.1 (finds_own w x loads start now going c.scan_load.ensures.own)),
+      subst (λ n. Loads n more start.view) (sym (add-one w)) (more_loads w x loads start.view so_far.1 (finds_own w x loads start now going c.scan_load.ensures.own)),
       (λ below. subst (λ n. Going n more start new) (sym (add-one w)) (goes_on w x loads start now new going c.scan_load.ensures.seat (omega arith))),
       (λ e. ends w x loads start now new going c.scan_load.ensures.seat (omega arith) (ready_once old start is_ready sound.retired_once)),
     )
