@@ -1,37 +1,29 @@
 -- Steps of a call, one after the other, until it stands.
-use Rattle.std.proofs.Common.{◌≡◌, ◌∙◌, ℕ, ◌+◌, ◌≤◌, suc, zero, Bool, true, false, not, ◌&&◌, cond, eqb, eq-eqb, List, [], ◌∷◌, ◌++◌, Some, is_some, length, map, filter, drop, append-nil, append_assoc, length-append, refl, sym, ap, subst, arith}
+use Rattle.std.proofs.Common.{◌≡◌, ◌≢◌, ◌∙◌, ℕ, ◌/◌, ◌≤◌, suc, zero, Bool, true, false, cond, List, [], ◌∷◌, ◌++◌, Option, Some}
+use Rattle.std.proofs.Common.{is_some, length, drop, append-nil, append_assoc, refl, sym, ap, subst, arith}
 use Rattle.std.specs.Prelude.{slice_index}
-use Rattle.std.proofs.lemmas.Bool.{false≢true}
 use Rattle.std.proofs.lemmas.List.{drop-append-le}
-use Rattle.std.proofs.lemmas.List.Elements.{filter-append}
 use Rattle.std.proofs.Math.Seq.{drop-append_seam}
 use mathlib.Core.Option.{some}
 use lib.ListN.{get_elem?}
-use Rattle.big_atomic.specs.Calls.{changes_on, exchanges, is_exchange, is_lost, lost_steps}
-use Rattle.big_atomic.specs.Looking.{Goes, HasStepped}
-use Rattle.seat_history.specs.Change.{is_change}
-use Rattle.seat_history.specs.History.{state_at}
-use Rattle.seat_history.specs.declared.call.Call.{Call}
+use Rattle.big_atomic.proofs.Paid.{AreStill, changes-append, last_look-append, lost-append, others_change, paid_kept, paid_look, paid_more, paid_still, paid_then, saw_within, still_last, still_lost}
+use Rattle.big_atomic.specs.Calling.{Calling, Goes, HasFound, IsLooked, OnlySteps}
+use Rattle.big_atomic.specs.Turns.{TurnsArePaid, changes_on, is_lost, last_look, lost_steps}
 use Rattle.seat_history.specs.declared.entry.Entry.{Entry}
-use Rattle.seat_history.specs.declared.reply.Reply.{Reply}
-use Rattle.seat_history.specs.declared.reply.Reply.TheVariants.{Full}
 use Rattle.step_rules.proofs.Advance.{goes_further}
-use Rattle.step_rules.proofs.Lawfuls.{above_end}
 use Rattle.step_rules.proofs.Records.{held_longer}
-use Rattle.step_rules.proofs.Sets.{has_first}
 use Rattle.step_rules.proofs.Trails.{goes_on_same, longer_seen}
-use Rattle.step_rules.specs.History.{GoesOn, NoneOn, cell_of, entries_by}
+use Rattle.step_rules.specs.Claims.{HOLD}
+use Rattle.step_rules.specs.History.{GoesOn, NoneOn}
 use Rattle.step_rules.specs.Kinds.Standing.{first_look, is_look}
-use Rattle.step_rules.specs.Lawful.{IsReply, IsRight, entry_of, held_by, is_full, made_by}
+use Rattle.step_rules.specs.Lawful.{held_by}
 use Rattle.step_rules.specs.SeatData.{SeatData, holds_record}
 use Rattle.step_rules.specs.Sound.{Sound}
-use Rattle.step_rules.specs.Steps.{HasLooked, HasScanned, IsThere, MayAnswer}
-use Rattle.step_rules.specs.Stood.{Stood, StoodStill}
-use Rattle.step_rules.specs.Views.{number, reading, stock, stood_view}
-use Rattle.step_rules.specs.World.{has}
+use Rattle.step_rules.specs.Steps.{Sees}
+use Rattle.step_rules.specs.Views.{claim_of, counted, look_at, number, stock}
 use Rattle.step_rules.specs.declared.plan.Plan.{Plan}
 use Rattle.step_rules.specs.declared.view.Counted.{Counted}
-use Rattle.step_rules.specs.declared.view.Stand.{Stand}
+use Rattle.step_rules.specs.declared.view.Kind.{Kind}
 use Rattle.step_rules.specs.declared.view.View.{View}
 
 -- the first look in a trail that goes on
@@ -57,171 +49,184 @@ looked_after k zero m n (c ∷ t) steps within each e low = go (is_look k c.kind
     go true rest = (c.seen, refl, each 0 c refl)
     go false rest = rest
 
-pub exchanges-append : (a b : List Counted) → exchanges (a ++ b) ≡ exchanges a + exchanges b
-exchanges-append a b = ap length (filter-append (λ (step : Counted). is_exchange step.kind) a b) ∙ length-append _ _
+-- what was seen from a place on, in two parts
+pub drop_parts : (n : ℕ) (b c : List Entry) → n ≤ length b → (next : GoesOn b c) → drop n c ≡ drop n b ++ drop (length b) c
+drop_parts n b c low next = ap (drop n) next.1 ∙ (drop-append-le n b next.0 low ∙ ap (λ r. drop n b ++ r) (sym (ap (drop (length b)) next.1 ∙ drop-append_seam b next.0)))
 
-pub lost-append : (a b : List Counted) → lost_steps (a ++ b) ≡ lost_steps a + lost_steps b
-lost-append a b = ap length (filter-append is_lost a b) ∙ length-append _ _
+pub only_then : (u v w : View) → OnlySteps u v → OnlySteps v w → OnlySteps u w
+only_then u v w p q = q ∙ ap (λ (z : View). record z { seen = w.seen; own = w.own; retired = w.retired; look = w.look; trail = w.trail; claims = w.claims; links = w.links; scan = w.scan }) p
 
-pub changes-append : (p : Plan) (k x : ℕ) (a b : List Entry) → changes_on p k x (a ++ b) ≡ changes_on p k x a + changes_on p k x b
-changes-append p k x a b = ap length (filter-append (λ (e : Entry). (eqb (cell_of p e.call) k) && not (eqb e.caller x)) a b) ∙ length-append _ _
+-- lost steps in two stretches of the history
+few_then : (p : Plan) (k x n : ℕ) (a b : List Counted) (seen seen' : List Entry) → n ≤ length seen → GoesOn seen seen' → lost_steps a ≤ changes_on p k x (drop n seen)
+    → lost_steps b ≤ changes_on p k x (drop (length seen) seen')
+    → lost_steps (a ++ b) ≤ changes_on p k x (drop n seen')
+few_then p k x n a b seen seen' low on first second =
+    let lost = lost-append a b in
+    let sum = ap (changes_on p k x) (drop_parts n seen seen' low on) ∙ changes-append p k x (drop n seen) (drop (length seen) seen') in omega arith
 
--- what was seen later, in two parts
-pub drop_parts : (a b c : List Entry) (on : GoesOn a b) → (next : GoesOn b c) → drop (length a) c ≡ drop (length a) b ++ drop (length b) c
-drop_parts a b c on next =
-    let low = longer_seen a b on in
-    ap (drop (length a)) next.1 ∙ (drop-append-le (length a) b next.0 low ∙ ap (λ r. drop (length a) b ++ r) (sym (ap (drop (length b)) next.1 ∙ drop-append_seam b next.0)))
+-- the lost steps of the second part, by the plan and the number of the seat at first
+few_before : {found : Option ℕ} (k : ℕ) (b : List Counted) (u v w : SeatData) → OnlySteps u.view v.view → Goes k found b v w
+    → lost_steps b ≤ changes_on u.view.plan k (number u.view) (drop (length v.view.seen) w.view.seen)
+few_before k b u v w only q = subst (λ (z : Plan × ℕ). lost_steps b ≤ changes_on z.0 k z.1 (drop (length v.view.seen) w.view.seen)) (λ i. (ap (λ (z : View). z.plan) only i, ap number only i)) q.few
 
 -- steps one after the other
-pub goes_then : (reg : ℕ) (a b : List Counted) (u v w : View) → Goes reg a u v → Goes reg b v w → Goes reg (a ++ b) u w
-goes_then reg a b u v w p q = record {
-  plan = q.plan ∙ p.plan;
-  numbers = q.numbers ∙ p.numbers;
-  stands = q.stands ∙ p.stands;
-  since = q.since ∙ p.since;
-  changes = q.changes ∙ p.changes;
-  removes = q.removes ∙ p.removes;
-  trail = q.trail ∙ (ap (λ t. t ++ b) p.trail ∙ append_assoc u.trail a b);
-  seen = goes_further u.seen v.seen w.seen q.seen.0 p.seen q.seen.1;
-  turns =
-      let first = p.turns in
-      let second : lost_steps b ≤ changes_on u.plan reg (number u) (drop (length v.seen) w.seen) = subst (λ (z : Plan × List ℕ). lost_steps b ≤ changes_on z.0 reg (slice_index z.1 0) (drop (length v.seen) w.seen)) (λ i. (p.plan i, p.numbers i)) q.turns in
-      let lost = lost-append a b in
-      let sum = ap (changes_on u.plan reg (number u)) (drop_parts u.seen v.seen w.seen p.seen q.seen) ∙ changes-append u.plan reg (number u) (drop (length u.seen) v.seen) (drop (length v.seen) w.seen) in omega arith;
-}
+pub goes_then : {k : ℕ} {found : Option ℕ} {a b : List Counted} {u v w : SeatData} → Goes k found a u v → Goes k (Some (length v.view.seen)) b v w → Goes k found (a ++ b) u w
+goes_then {k} {found} {a} {b} {u} {v} {w} p q =
+    let plan : v.view.plan ≡ u.view.plan = ap (λ (z : View). z.plan) p.only in
+    let numbers : v.view.numbers ≡ u.view.numbers = ap (λ (z : View). z.numbers) p.only in
+    let paid : TurnsArePaid u.view.plan k (number u.view) w.view.seen (last_look k found a) b =
+    subst (λ (z : Plan × List ℕ × Option ℕ). TurnsArePaid z.0 k (slice_index z.1 0) w.view.seen z.2 b) (λ i. (plan i, numbers i, sym p.last i)) q.paid in
+    record {
+      only = only_then u.view v.view w.view p.only q.only;
+      trail = q.trail ∙ (ap (λ t. t ++ b) p.trail ∙ append_assoc u.view.trail a b);
+      seen = goes_further u.view.seen v.view.seen w.view.seen q.seen.0 p.seen q.seen.1;
+      last = last_look-append k found a b ∙ (ap (λ (f : Option ℕ). last_look k f b) p.last ∙ q.last);
+      paid = paid_then u.view.plan k (number u.view) w.view.seen found a b
+          (paid_more u.view.plan k (number u.view) v.view.seen w.view.seen found a q.seen (saw_within v.view u.view.trail a p.sound p.trail) p.paid) paid;
+      few = few_then u.view.plan k (number u.view) (length u.view.seen) a b v.view.seen w.view.seen (longer_seen u.view.seen v.view.seen p.seen) q.seen p.few (few_before k b u v w p.only q);
+      object = q.object ∙ p.object;
+      first = q.first ∙ p.first;
+      stock = q.stock ∙ p.stock;
+      sound = q.sound;
+    }
 
--- steps that saw no more and lost nothing
-pub goes_still : (reg : ℕ) (steps : List Counted) (v w : View) → w.plan ≡ v.plan → w.numbers ≡ v.numbers → w.stands ≡ v.stands → w.since ≡ v.since → w.changes ≡ v.changes → w.removes ≡ v.removes → w.trail ≡ v.trail ++ steps → w.seen ≡ v.seen → lost_steps steps ≡ 0
-    → Goes reg steps v w
-goes_still reg steps v w plan numbers stands since changes removes trail seen none = record {
-  plan = plan;
-  numbers = numbers;
-  stands = stands;
-  since = since;
-  changes = changes;
-  removes = removes;
+-- steps that looked at no cell and saw no more
+pub goes_still : (k : ℕ) (steps : List Counted) (u w : SeatData) → OnlySteps u.view w.view → w.view.trail ≡ u.view.trail ++ steps → w.view.seen ≡ u.view.seen → AreStill steps
+    → w.object ≡ u.object → w.first ≡ u.first → stock w.view ≡ stock u.view → Sound w.view → Goes k (Some (length u.view.seen)) steps u w
+goes_still k steps u w only trail seen quiet object first kept sound = record {
+  only = only;
   trail = trail;
-  seen = subst (λ s. GoesOn v.seen s) (sym seen) (goes_on_same v.seen);
-  turns = omega arith;
+  seen = subst (λ s. GoesOn u.view.seen s) (sym seen) (goes_on_same u.view.seen);
+  last = still_last k (Some (length u.view.seen)) steps quiet ∙ ap (λ (s : List Entry). Some (length s)) (sym seen);
+  paid = paid_still u.view.plan k (number u.view) w.view.seen (Some (length u.view.seen)) steps quiet;
+  few = omega (arith, still_lost steps quiet);
+  object = object;
+  first = first;
+  stock = kept;
+  sound = sound;
 }
 
-pub goes_none : (reg : ℕ) (v : View) → Goes reg [] v v
-goes_none reg v = goes_still reg [] v v refl refl refl refl refl refl (sym (append-nil v.trail)) refl refl
+pub goes_none : (k : ℕ) (u : SeatData) → Sound u.view → Goes k (Some (length u.view.seen)) [] u u
+goes_none k u sound = goes_still k [] u u refl (sym (append-nil u.view.trail)) refl refl refl refl refl sound
+
+last_one : (k : ℕ) (found : Option ℕ) (step : Counted) (seen : List Entry) → is_look k step.kind ≡ true → step.seen ≡ length seen → last_look k found (step ∷ []) ≡ Some (length seen)
+last_one k found step seen look whole = ap (λ (b : Bool). cond b (Some step.seen) found) look ∙ ap (λ (n : ℕ). Some n) whole
+
+lost_most : (step : Counted) → lost_steps (step ∷ []) ≤ 1
+lost_most step = go (is_lost step)
+  where
+    go : (b : Bool) → length (cond b (step ∷ []) []) ≤ 1
+    go true = omega arith
+    go false = omega arith
+
+-- one step, which looks at the cell k
+pub record LooksAt (k : ℕ) (step : Counted) (u w : SeatData) : Type 0 where
+  pub only : OnlySteps u.view w.view
+  pub trail : w.view.trail ≡ u.view.trail ++ step ∷ []
+  pub seen : GoesOn u.view.seen w.view.seen
+  pub whole : step.seen ≡ length w.view.seen
+  pub look : is_look k step.kind ≡ true
+  pub object : w.object ≡ u.object
+  pub first : w.first ≡ u.first
+  pub stock : stock w.view ≡ stock u.view
+  pub before : Sound u.view
+  pub sound : Sound w.view
+
+-- a look is such a step
+pub seen_on : {kind : Kind} {k x : ℕ} {u w : SeatData} → Sees kind k x u w → GoesOn u.view.seen w.view.seen
+seen_on sees = (sees.looks.rest, ap (λ (z : View). z.seen) sees.looks.after ∙ sees.looks.seen)
+
+pub looks_at : {kind : Kind} {k x : ℕ} {u w : SeatData} → is_look k kind ≡ true → Sees kind k x u w → Sound u.view → Sound w.view → LooksAt k (counted kind x (length w.view.seen)) u w
+looks_at {kind = kind} {k = k} {x = x} {u = u} {w = w} look sees before sound =
+    let l = sees.looks in
+    let log : w.view.seen ≡ l.log = ap (λ (z : View). z.seen) l.after in record {
+      only = subst (λ (z : View). OnlySteps u.view z) (sym l.after) refl;
+      trail = ap (λ (z : View). z.trail) l.after ∙ ap (λ (s : List Entry). u.view.trail ++ counted kind x (length s) ∷ []) (sym log);
+      seen = seen_on sees;
+      whole = refl;
+      look = look;
+      object = ap (λ (z : SeatData). z.object) sees.same;
+      first = ap (λ (z : SeatData). z.first) sees.same;
+      stock = ap stock l.after;
+      before = before;
+      sound = sound;
+    }
+
+-- the word that it found is the one found last
+pub found_at_look : {kind : Kind} {k x : ℕ} {u w : SeatData} → Sees kind k x u w → HasFound k x w.view
+found_at_look {k = k} {x = x} sees =
+    let l = sees.looks in ap (λ (z : View). z.look) l.after ∙ ap (λ (s : List Entry). Some (look_at k x (length s))) (sym (ap (λ (z : View). z.seen) l.after))
+
+-- where it has another node than the one found last before, the history has an entry on the cell since
+pub moved_since : {kind : Kind} {k x word : ℕ} {u w : SeatData} → Sees kind k x u w → HasFound k word u.view → x / 2 ≢ word / 2 → ¬ NoneOn u.view.plan k (drop (length u.view.seen) w.view.seen)
+moved_since {k = k} {word = word} {u = u} sees found far =
+    let l = sees.looks in
+    subst (λ (s : List Entry). ¬ NoneOn u.view.plan k (drop (length u.view.seen) s)) (sym (ap (λ (z : View). z.seen) l.after)) (l.moved (look_at k word (length u.view.seen)) found refl far)
+
+-- it isn't lost
+pub goes_look : {k : ℕ} {step : Counted} {u w : SeatData} (found : Option ℕ) → LooksAt k step u w → is_lost step ≡ false → Goes k found (step ∷ []) u w
+goes_look {k = k} {step = step} {u = u} {w = w} found l kept = record {
+  only = l.only;
+  trail = l.trail;
+  seen = l.seen;
+  last = last_one k found step w.view.seen l.look l.whole;
+  paid = paid_kept u.view.plan k (number u.view) w.view.seen found step kept;
+  few = omega (arith, ap (λ (b : Bool). length (cond b (step ∷ []) [])) kept);
+  object = l.object;
+  first = l.first;
+  stock = l.stock;
+  sound = l.sound;
+}
+
+-- since the look before it the history has an entry on the cell, so it may be lost
+pub goes_lost : {k : ℕ} {step : Counted} {u w : SeatData} → LooksAt k step u w → ¬ NoneOn u.view.plan k (drop (length u.view.seen) w.view.seen) → Goes k (Some (length u.view.seen)) (step ∷ []) u w
+goes_lost {k = k} {step = step} {u = u} {w = w} l some_on =
+    let only = l.only in
+    let change = others_change k u.view w.view l.before l.sound (ap (λ (z : View). z.plan) only) (ap (λ (z : View). z.numbers) only) (ap (λ (z : View). z.stands) only) l.seen some_on in record {
+      only = only;
+      trail = l.trail;
+      seen = l.seen;
+      last = last_one k (Some (length u.view.seen)) step w.view.seen l.look l.whole;
+      paid = paid_look u.view.plan k (number u.view) (length u.view.seen) w.view.seen step l.look l.whole change;
+      few = omega (arith, lost_most step, change);
+      object = l.object;
+      first = l.first;
+      stock = l.stock;
+      sound = l.sound;
+    }
 
 -- further steps after the first look
-pub stepped_more : (reg look : ℕ) (a b : List Counted) (u v w : View) → HasStepped reg a look u v → Goes reg b v w → HasStepped reg (a ++ b) look u w
-stepped_more reg look a b u v w p q = record {
-  goes = goes_then reg a b u v w p.goes q;
-  looked = looked_more reg zero look a b (omega arith) p.looked;
-  from = p.from;
-  upto = let upto = p.upto in let longer = longer_seen v.seen w.seen q.seen in omega arith;
+pub looked_then : {k look : ℕ} {found : Option ℕ} {a b : List Counted} {u v w : SeatData} → Goes k found a u v → IsLooked k a look u v → Goes k (Some (length v.view.seen)) b v w
+    → IsLooked k (a ++ b) look u w
+looked_then {k} {look} {a} {b} {u} {v} {w} p l q = record {
+  looked = looked_more k zero look a b (omega arith) l.looked;
+  from = l.from;
+  upto = let upto = l.upto in let longer = longer_seen v.view.seen w.view.seen q.seen in omega arith;
+  few = few_then u.view.plan k (number u.view) look a b v.view.seen w.view.seen l.upto q.seen l.few (few_before k b u v w p.only q);
+}
+
+pub calling_then : {reg look : ℕ} {a b : List Counted} {u v w : SeatData} → Calling reg a look u v → Goes reg (Some (length v.view.seen)) b v w → claim_of HOLD w.view ≡ claim_of HOLD v.view
+    → Calling reg (a ++ b) look u w
+calling_then c q hold = record {
+  goes = goes_then c.goes q;
+  looked = looked_then c.goes c.looked q;
+  hold = hold ∙ c.hold;
 }
 
 -- the call has looked since its seat's last stand
-pub has_looked : (reg look q : ℕ) (steps : List Counted) (v w : View) → Sound v → HasStepped reg steps look v w → look ≤ q → (n : ℕ) × (first_look reg (drop w.since w.trail) ≡ Some n) × (n ≤ q)
-has_looked reg look q steps v w sound p low =
-    let from = p.from in
-    subst (λ (z : ℕ × List Counted). (n : ℕ) × (first_look reg (drop z.0 z.1) ≡ Some n) × (n ≤ q)) (λ i. (sym p.goes.since i, sym p.goes.trail i))
-    (looked_after reg v.since q look v.trail steps sound.trail.within (λ i c at. let each = sound.trail.each i c at in omega arith) p.looked low)
+pub looked_before : {found : Option ℕ} {reg look : ℕ} {steps : List Counted} {v w : SeatData} (q : ℕ) → Sound v.view → Goes reg found steps v w → IsLooked reg steps look v w → look ≤ q
+    → (n : ℕ) × (first_look reg (drop w.view.since w.view.trail) ≡ Some n) × (n ≤ q)
+looked_before {reg} {look} {steps} {v} {w} q sound p l low =
+    let from = l.from in
+    let since : w.view.since ≡ v.view.since = ap (λ (z : View). z.since) p.only in
+    subst (λ (z : ℕ × List Counted). (n : ℕ) × (first_look reg (drop z.0 z.1) ≡ Some n) × (n ≤ q)) (λ i. (sym since i, sym p.trail i))
+    (looked_after reg v.view.since q look v.view.trail steps sound.trail.within (λ i c at. let each = sound.trail.each i c at in omega arith) l.looked low)
 
 -- the held record stays as more is seen
-pub held_stays : (reg : ℕ) (steps : List Counted) (v w : View) → Sound v → Goes reg steps v w → held_by w.seen (number w) w.stands ≡ held_by v.seen (number v) v.stands
-held_stays reg steps v w sound p =
-    subst (λ (z : List ℕ × List Stand). held_by w.seen (slice_index z.0 0) z.1 ≡ held_by v.seen (number v) v.stands) (λ i. (sym p.numbers i, sym p.stands i))
-    (held_longer v p.seen.0 w.seen sound.lawful p.seen.1)
+pub held_stays : {found : Option ℕ} {reg : ℕ} {steps : List Counted} {v w : SeatData} → Sound v.view → Goes reg found steps v w
+    → held_by w.view.seen (number w.view) w.view.stands ≡ held_by v.view.seen (number v.view) v.view.stands
+held_stays {v} {w} sound p =
+    (λ i. held_by w.view.seen (ap number p.only i) (ap (λ (z : View). z.stands) p.only i)) ∙ held_longer v.view p.seen.0 w.view.seen sound.lawful p.seen.1
 
-pub free_stays : (reg : ℕ) (steps : List Counted) (v w : View) → Sound v → Goes reg steps v w → holds_record v ≡ false → holds_record w ≡ false
-free_stays reg steps v w sound p free = ap is_some (held_stays reg steps v w sound p) ∙ free
-
--- a stand that is no change
-pub right_at : (v : View) (q : ℕ) (call : Call) (reply : Reply) → q ≤ length v.seen → IsReply v.plan.seats (stock v) (state_at v.seen q) (held_by v.seen (number v) v.stands) call reply → false ≡ (is_change (state_at v.seen q) call && not (is_full reply))
-    → IsRight v.plan.seats v.seen v.stands (reading q call reply v)
-right_at v q call reply within right still = record { place = within; reply = right; changes = still; entry = λ e. absurd cc }
-
--- a call that has looked may be answered at the end of what was seen
-pub may_now : (call : Call) (reply : Reply) (seat : SeatData) → IsThere seat.view.plan call → HasLooked (length seat.view.seen) call seat.view → Sound seat.view → IsRight seat.view.plan.seats seat.view.seen seat.view.stands (reading (length seat.view.seen) call reply seat.view)
-    → ((need free : ℕ) → reply ≡ Full need free → (free ≡ length seat.free) × (seat.holding ≡ []) × HasScanned seat.view (drop seat.view.since seat.view.trail)) → MayAnswer (length seat.view.seen) call reply seat
-may_now call reply seat there looked sound right full = record {
-  there = there;
-  stand = record { right = right; above = above_end seat.view.plan.seats seat.view.numbers seat.view.seen seat.view.stands (length seat.view.seen) call reply seat.view sound.lawful (omega arith) };
-  looked = looked;
-  full = full;
-}
-
--- the call as a whole, up to its stand
-pub stood_at : (reg look q : ℕ) (call : Call) (reply : Reply) (steps : List Counted) (v u w : View) → HasStepped reg steps look v u → w ≡ stood_view q call reply u → look ≤ q → IsRight u.plan.seats u.seen u.stands (reading q call reply u) → cell_of v.plan call ≡ reg → Sound w
-    → (s : Stood call reply (reading q call reply u) steps v w) × (s.look ≡ look)
-stood_at reg look q call reply steps v u w p e low right on sound =
-    let within = sound.within in
-    let g = p.goes in (
-      record {
-        stands = ap (λ (z : View). z.stands) e ∙ ap (λ l. l ++ reading q call reply u ∷ []) g.stands;
-        by = ap (λ (l : List ℕ). slice_index l 0) g.numbers;
-        call = refl;
-        reply = refl;
-        trail = ap (λ (z : View). z.trail) e ∙ g.trail;
-        look = look;
-        looked = ap (λ (k : ℕ). first_look k steps) on ∙ p.looked;
-        from = p.from;
-        after = low;
-        right = subst (λ (z : View). IsRight z.plan.seats z.seen v.stands (reading q call reply u)) (sym e) (subst (λ (l : List Stand). IsRight u.plan.seats u.seen l (reading q call reply u)) g.stands right);
-        lawful = sound.lawful;
-        history = sound.history;
-        seen = subst (λ (z : View). GoesOn v.seen z.seen) (sym e) g.seen;
-        within = omega arith;
-        plan = ap (λ (z : View). z.plan) e ∙ g.plan;
-        numbers = ap (λ (z : View). z.numbers) e ∙ g.numbers;
-        changes = omega (arith, ap (λ (z : View). z.changes) e, g.changes);
-        removes = ap (λ (z : View). z.removes) e ∙ g.removes;
-      },
-      refl,
-    )
-
--- a call that looks at no cell, up to its stand
-pub stood_still_at : (q : ℕ) (call : Call) (reply : Reply) (steps : List Counted) (v u w : View) → Goes 0 steps v u → w ≡ stood_view q call reply u → length v.seen ≤ q → IsRight u.plan.seats u.seen u.stands (reading q call reply u) → Sound w
-    → StoodStill call reply (reading q call reply u) steps v w
-stood_still_at q call reply steps v u w g e low right sound = record {
-  stands = ap (λ (z : View). z.stands) e ∙ ap (λ l. l ++ reading q call reply u ∷ []) g.stands;
-  by = ap (λ (l : List ℕ). slice_index l 0) g.numbers;
-  call = refl;
-  reply = refl;
-  trail = ap (λ (z : View). z.trail) e ∙ g.trail;
-  from = low;
-  right = subst (λ (z : View). IsRight z.plan.seats z.seen v.stands (reading q call reply u)) (sym e) (subst (λ (l : List Stand). IsRight u.plan.seats u.seen l (reading q call reply u)) g.stands right);
-  lawful = sound.lawful;
-  seen = subst (λ (z : View). GoesOn v.seen z.seen) (sym e) g.seen;
-  plan = ap (λ (z : View). z.plan) e ∙ g.plan;
-  numbers = ap (λ (z : View). z.numbers) e ∙ g.numbers;
-  changes = ap (λ (z : View). z.changes) e ∙ g.changes;
-  removes = ap (λ (z : View). z.removes) e ∙ g.removes;
-}
-
--- the caller has no more entries, so an entry on the cell is another caller's
-others_entry : (p : Plan) (k x : ℕ) (es : List Entry) → ¬ NoneOn p k es → entries_by x es ≡ [] → 1 ≤ changes_on p k x es
-others_entry p k x [] some_on none = absurd (some_on tt)
-others_entry p k x (e ∷ es) some_on none = by_caller (eqb e.caller x) refl none (λ off rest. others_entry p k x es (λ apart. some_on ((λ on. false≢true (sym off ∙ eq-eqb (cell_of p e.call) k on)), apart)) rest)
-  where
-    by_cell : (b : Bool) → eqb (cell_of p e.call) k ≡ b → (eqb (cell_of p e.call) k ≡ false → 1 ≤ changes_on p k x es) → 1 ≤ length (cond (b && true) (e ∷ filter (λ (e : Entry). (eqb (cell_of p e.call) k) && not (eqb e.caller x)) es) (filter (λ (e : Entry). (eqb (cell_of p e.call) k) && not (eqb e.caller x)) es))
-    by_cell true on rest = omega arith
-    by_cell false off rest = rest off
-
-    by_caller : (b : Bool) → eqb e.caller x ≡ b → cond b (e ∷ entries_by x es) (entries_by x es) ≡ [] → (eqb (cell_of p e.call) k ≡ false → entries_by x es ≡ [] → 1 ≤ changes_on p k x es) → 1 ≤ length (cond ((eqb (cell_of p e.call) k) && not b) (e ∷ filter (λ (e : Entry). (eqb (cell_of p e.call) k) && not (eqb e.caller x)) es) (filter (λ (e : Entry). (eqb (cell_of p e.call) k) && not (eqb e.caller x)) es))
-    by_caller true is none rest = absurd cc
-    by_caller false is none rest = by_cell (eqb (cell_of p e.call) k) refl (λ off. rest off none)
-
-no_more : {A : Type 0} (xs ys : List A) → xs ++ ys ≡ xs → ys ≡ []
-no_more xs [] e = refl
-no_more xs (y ∷ ys) e = absurd (omega (arith, ap length e, length-append xs (y ∷ ys)))
-
--- what was seen on the cell between two views with the same stands is another caller's
-pub others_change : (k : ℕ) (v w : View) → Sound v → Sound w → w.plan ≡ v.plan → w.numbers ≡ v.numbers → w.stands ≡ v.stands → GoesOn v.seen w.seen → ¬ NoneOn v.plan k (drop (length v.seen) w.seen)
-    → 1 ≤ changes_on v.plan k (number v) (drop (length v.seen) w.seen)
-others_change k v w first second plan numbers stands on some_on =
-    let mine = has_first v.numbers first.some_number in
-    let before : entries_by (number v) v.seen ≡ map entry_of (made_by (number v) v.stands) = first.lawful.made (number v) mine in
-    let after : entries_by (number v) w.seen ≡ map entry_of (made_by (number v) v.stands) = subst (λ (l : List Stand). entries_by (number v) w.seen ≡ map entry_of (made_by (number v) l)) stands
-    (second.lawful.made (number v) (subst (λ (ns : List ℕ). has ns (number v) ≡ true) (sym numbers) mine)) in
-    let parts : entries_by (number v) w.seen ≡ entries_by (number v) v.seen ++ entries_by (number v) on.0 = ap (entries_by (number v)) on.1 ∙ filter-append (λ (e : Entry). eqb e.caller (number v)) v.seen on.0 in
-    let none : entries_by (number v) on.0 ≡ [] = no_more (entries_by (number v) v.seen) (entries_by (number v) on.0) (sym parts ∙ (after ∙ sym before)) in
-    let rest : drop (length v.seen) w.seen ≡ on.0 = ap (drop (length v.seen)) on.1 ∙ drop-append_seam v.seen on.0 in
-    subst (λ (r : List Entry). 1 ≤ changes_on v.plan k (number v) r) (sym rest) (others_entry v.plan k (number v) on.0 (subst (λ (r : List Entry). ¬ NoneOn v.plan k r) rest some_on) none)
+pub free_stays : {found : Option ℕ} {reg : ℕ} {steps : List Counted} {v w : SeatData} → Sound v.view → Goes reg found steps v w → holds_record v.view ≡ false → holds_record w.view ≡ false
+free_stays sound p free = ap is_some (held_stays sound p) ∙ free

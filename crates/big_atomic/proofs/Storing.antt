@@ -1,171 +1,179 @@
--- How a call that gives a register a new record goes on.
-use Rattle.std.proofs.Common.{◌≡◌, ◌≢◌, ◌∙◌, ℕ, ◌+◌, ◌*◌, ◌<◌, ◌≤◌, suc, zero, Bool, false, not, cond, List, [], ◌∷◌, ◌++◌, ◌⊎◌, ⊎_elim, Some, length, filter, append-nil, append_assoc, length-append, refl, sym, ap, subst, arith}
-use Rattle.std.proofs.lemmas.List.Filters.{length-filter_both}
-use Rattle.big_atomic.proofs.Endings.{quiet_none, quiet_then}
-use Rattle.big_atomic.proofs.Goings.{exchanges-append, goes_none, goes_still, goes_then, lost-append}
-use Rattle.big_atomic.specs.Calls.{HoldIsFree, is_exchange, is_lost, is_lost_by}
-use Rattle.big_atomic.specs.Looking.{AreQuiet, HasEnded}
-use Rattle.big_atomic.specs.Storing.{Cost, HasRoom, Runs}
-use Rattle.hazard_claims.specs.Scanning.{IsScan, names}
-use Rattle.step_rules.specs.Claims.{BACK, HOLD, OWN, WALK}
-use Rattle.step_rules.specs.Kinds.Standing.{first_look, is_look}
-use Rattle.step_rules.specs.Layout.{claim_at}
-use Rattle.step_rules.specs.SeatData.{SeatData, holds_record}
-use Rattle.step_rules.specs.Steps.{found_at, kinds_of, scan_kinds}
-use Rattle.step_rules.specs.Views.{claim_of, counted, number}
-use Rattle.step_rules.specs.declared.layout.TheConstants.{CLAIMS}
-use Rattle.step_rules.specs.declared.plan.Plan.{Plan}
+-- How a store comes to its answer once it tries exchanges.
+use Rattle.std.proofs.Common.{◌≡◌, ◌∙◌, ℕ, ◌<◌, suc, zero, Bool, true, false, not, ◌&&◌, List, [], ◌∷◌, ◌++◌, None, Some, length, set, refl, sym, ap, subst, arith}
+use Rattle.std.proofs.lemmas.Bool.{false≢true}
+use mathlib.Core.Option.{some, some-injective}
+use lib.ListN.{get_elem?}
+use Rattle.big_atomic.proofs.Answered.{MayEnd, goes_of, right_at, EndsAs, clear_step, ended_as}
+use Rattle.big_atomic.proofs.Claimed.{lost_longer}
+use Rattle.big_atomic.proofs.Goings.{goes_then}
+use Rattle.big_atomic.proofs.Paid.{exchanges-append, scan_loads-append}
+use Rattle.big_atomic.proofs.Swapping.{PutsDown, put_goes, put_holding, put_others, put_own, put_step, put_view}
+use Rattle.big_atomic.proofs.Trying.{Trying, changing_then, gives_store, scans_fit, won_call, changing_end}
+use Rattle.big_atomic.proofs.Winning.{all_steps, answered_won, won_ready, won_scanned, won_stays, won_tried, EndsClaims}
+use Rattle.big_atomic.specs.Calling.{Goes, HasClaimedRecord, HasLost, HasTurnedOver, HasWon, IsChanging, IsWorking}
+use Rattle.big_atomic.specs.Calls.{IsStored, ScansForWant, register_at}
+use Rattle.big_atomic.specs.Ready.{IsReady}
+use Rattle.big_atomic.specs.Turns.{exchanges, scan_loads}
+use Rattle.big_atomic.specs.declared.answers.Stored.TheVariants.{Done as StoreDone}
+use Rattle.node_pool.specs.Pool.{IsPutBack}
+use Rattle.seat_history.specs.History.{state_at}
+use Rattle.seat_history.specs.Step.{is_same}
+use Rattle.seat_history.specs.declared.call.Call.TheVariants.{Store}
+use Rattle.seat_history.specs.declared.entry.Entry.{Entry}
+use Rattle.seat_history.specs.declared.reply.Reply.TheVariants.{Done}
+use Rattle.step_rules.proofs.Trails.{longer_seen}
+use Rattle.step_rules.specs.Claims.{BACK, HOLD, OWN, On, WALK}
+use Rattle.step_rules.specs.SeatData.{IsOf, IsSeat, ObjectData, SeatData}
+use Rattle.step_rules.specs.Steps.{stepped}
+use Rattle.step_rules.specs.Views.{claim_of, cleared_view, silent, words_in}
+use Rattle.step_rules.specs.World.{has, nodes_of}
 use Rattle.step_rules.specs.declared.view.Claim.{Claim}
 use Rattle.step_rules.specs.declared.view.Counted.{Counted}
-use Rattle.step_rules.specs.declared.view.Kind.{Kind}
-use Rattle.step_rules.specs.declared.view.Kind.TheVariants.{ClaimClear, ScanLoad}
+use Rattle.step_rules.specs.declared.view.Held.{Held}
 use Rattle.step_rules.specs.declared.view.View.{View}
 
-pub cost_then : (l m e f n o : ℕ) (a b : List Counted) → Cost l e n a → Cost m f o b → Cost (l + m) (e + f) (n + o) (a ++ b)
-cost_then l m e f n o a b p q = let pl = p.few_lost in let pe = p.few_exchanges in let pm = p.few in let ql = q.few_lost in let qe = q.few_exchanges in let qm = q.few in record {
-  few_lost = omega (arith, lost-append a b);
-  few_exchanges = omega (arith, exchanges-append a b);
-  few = omega (arith, length-append a b);
-}
+-- no claim stands in a word that was cleared
+pub own_silent : (l : List Claim) (c : ℕ) (y : Claim) → get_elem? (set l c (silent 0)) c ≡ some y → y.stands ≡ true → ⊥
+own_silent [] c y at on = absurd cc
+own_silent (x ∷ l) zero y at on = false≢true (ap (λ (z : Claim). z.stands) (some-injective (silent 0) y at) ∙ on)
+own_silent (x ∷ l) (suc c) y at on = own_silent l c y at on
 
-pub quiet_cost : (n : ℕ) (a : List Counted) → AreQuiet a → length a ≤ n → Cost 0 0 n a
-quiet_cost n a q few = let lost = q.lost in let none = q.none in record { few_lost = omega arith; few_exchanges = omega arith; few = few }
+-- the seat stays of its object
+pub cleared_ours : {shared : ObjectData} {u cleared : SeatData} → cleared ≡ stepped (cleared_view OWN u.view) u → IsOf shared u → IsOf shared cleared
+cleared_ours is of = record { object = ap (λ (z : SeatData). z.object) is ∙ of.object; plan = ap (λ (z : SeatData). z.view.plan) is ∙ of.plan }
 
--- steps one after the other
-pub runs_then : (k : ℕ) (a b : List Counted) (u v w : SeatData) → Runs k a u v → Runs k b v w → Runs k (a ++ b) u w
-runs_then k a b u v w p q = record {
-  goes = goes_then k a b u.view v.view w.view p.goes q.goes;
-  object = q.object ∙ p.object;
-  first = q.first ∙ p.first;
-  nodes = q.nodes ∙ p.nodes;
-  hold = q.hold ∙ p.hold;
-}
+pub put_ours : {shared : ObjectData} {node : ℕ} {u put : SeatData} → IsPutBack node u put → IsOf shared u → IsOf shared put
+put_ours back of = record { object = ap (λ (z : SeatData). z.object) back.same ∙ of.object; plan = ap (λ (z : SeatData). z.view.plan) back.same ∙ of.plan }
 
-pub runs_none : (k : ℕ) (u : SeatData) → Runs k [] u u
-runs_none k u = record { goes = goes_none k u.view; object = refl; first = refl; nodes = refl; hold = refl }
+-- THE EXCHANGE WON
+pub store_won : {shared : ObjectData} {reg word node look : ℕ} {rec new : List ℕ} {steps : List Counted} {before now after final : SeatData}
+    → Trying shared reg word node rec new steps look before now → HasWon reg word node (Store reg new) now after → EndsClaims after final → IsSeat final
+    → IsStored reg new StoreDone before final × IsReady shared final
+store_won {shared} {reg} {new} {steps} {before} {now} t won ended last =
+    let w = won_call Done t won ended last in
+    let g = gives_store reg new (register_at now.view (claim_of BACK now.view).at reg) in
+    let a = answered_won w g in (
+      record {
+        answered = a.0;
+        hold = won_stays w g;
+        scans = subst (λ (l : List Counted). ScansForWant Done l before) (sym a.1) (scans_fit Done steps (all_steps w g) before t.changing.scans (won_scanned w g) (won_tried w g));
+        full = λ need free e. absurd cc;
+        enough = λ many. refl;
+      },
+      won_ready w g shared t.changing.began.ready t.changing.walk,
+    )
 
--- the claims were ended
-pub ended_runs : (u v : SeatData) (e : HasEnded u v) (k : ℕ) → Runs k e.steps u v
-ended_runs u v e k = record {
-  goes = e.goes k;
-  object = ap (λ (z : SeatData). z.object) e.same;
-  first = ap (λ (z : SeatData). z.first) e.same;
-  nodes = omega (arith, ap (λ (z : SeatData). length z.free) e.same, ap (λ (z : SeatData). length z.holding) e.same, ap (λ (z : View). length z.retired) e.view);
-  hold = e.hold;
-}
+-- THE EXCHANGE WAS LOST, and the node that is there then was claimed
+pub record LostTurn (shared : ObjectData) (reg word node next : ℕ) (there rec new : List ℕ) (now lost again : SeatData) : Type 0 where
+  pub working : IsWorking shared reg word node there new now
+  pub loses : HasLost reg now lost
+  pub claimed : HasClaimedRecord BACK reg next rec lost again
+  pub law : IsSeat again
 
--- QUIET STEPS
+pub lost_turn : {shared : ObjectData} {reg word node next : ℕ} {there rec new : List ℕ} {now lost again : SeatData} → IsWorking shared reg word node there new now → HasLost reg now lost
+    → HasClaimedRecord BACK reg next rec lost again → IsSeat again → LostTurn shared reg word node next there rec new now lost again
+lost_turn working loses claimed law = record { working = working; loses = loses; claimed = claimed; law = law }
 
--- one step more, of a kind that is no look and no exchange
-pub quiet_step : (kind : Kind) (c : Counted) (r : List Counted) → c.kind ≡ kind → ((k : ℕ) → is_look k kind ≡ false) → ((x : ℕ) → is_lost_by kind x ≡ false) → is_exchange kind ≡ false → AreQuiet r → AreQuiet (c ∷ r)
-quiet_step kind c r is look lost none q = record {
-  looks = λ k. ap (λ (b : Bool). cond b (Some c.seen) (first_look k r)) (ap (is_look k) is ∙ look k) ∙ q.looks k;
-  lost = ap (λ (b : Bool). length (cond b (c ∷ filter is_lost r) (filter is_lost r))) (ap (λ (kd : Kind). is_lost_by kd c.found) is ∙ lost c.found) ∙ q.lost;
-  none = ap (λ (b : Bool). length (cond b (c ∷ filter (λ (step : Counted). is_exchange step.kind) r) (filter (λ (step : Counted). is_exchange step.kind) r))) (ap is_exchange is ∙ none) ∙ q.none;
-}
+module _ {shared : ObjectData} {reg word node next : ℕ} {there rec new : List ℕ} {now lost again : SeatData} (t : LostTurn shared reg word node next there rec new now lost again) where
+  abbrev pub turn_steps : List Counted
+  turn_steps = t.loses.tries ++ t.claimed.0.0.steps
 
-scan_quiet : (w n : ℕ) (loads : List Counted) → kinds_of loads ≡ scan_kinds w n → AreQuiet loads × (length loads ≡ n)
-scan_quiet w zero [] e = (quiet_none, refl)
-scan_quiet w zero (c ∷ r) e = absurd cc
-scan_quiet w (suc n) [] e = absurd cc
-scan_quiet w (suc n) (c ∷ r) e =
-    let head : c.kind ≡ ScanLoad w = cc in
-    let rest : kinds_of r ≡ scan_kinds (suc w) n = cc in
-    let q = scan_quiet (suc w) n r rest in
-    (quiet_step (ScanLoad w) c r head (λ k. refl) (λ x. refl) refl q.0, ap suc q.1)
+  pub turn_goes : Goes reg (Some (length now.view.seen)) turn_steps now again
+  turn_goes = goes_then t.loses.goes (t.claimed.0.0.goes (Some (length lost.view.seen)))
 
-clear_quiet : (n : ℕ) (clear : List Counted) → (clear ≡ []) ⊎ (clear ≡ counted (ClaimClear WALK) 0 n ∷ []) → AreQuiet clear × (length clear ≤ 1)
-clear_quiet n clear e = ⊎_elim
-    (λ (none : clear ≡ []). subst (λ (l : List Counted). AreQuiet l × (length l ≤ 1)) (sym none) (quiet_none, omega arith))
-    (λ (one : clear ≡ counted (ClaimClear WALK) 0 n ∷ []). subst (λ (l : List Counted). AreQuiet l × (length l ≤ 1)) (sym one)
-    (quiet_step (ClaimClear WALK) (counted (ClaimClear WALK) 0 n) [] refl (λ k. refl) (λ x. refl) refl quiet_none, omega arith))
-    e
+  pub turn_scanned : scan_loads turn_steps ≡ 0
+  turn_scanned = let a = t.loses.none_scanned in let b = t.claimed.0.0.looks.none_scanned in omega (arith, scan_loads-append t.loses.tries t.claimed.0.0.steps)
 
--- A WHOLE SCAN
+  pub turn_tried : 0 < exchanges turn_steps
+  turn_tried = let a = t.loses.some_tried in omega (arith, exchanges-append t.loses.tries t.claimed.0.0.steps)
 
-module _ (old new : SeatData) (s : IsScan old new) where
-  scan_view : new.view ≡ record old.view { own = new.view.own; retired = new.view.retired; trail = new.view.trail; claims = new.view.claims; scan = new.view.scan }
-  scan_view = ap (λ (z : SeatData). z.view) s.same
+  pub turn_claims : (c : ℕ) → (c ≡ BACK → ⊥) → claim_of c again.view ≡ claim_of c now.view
+  turn_claims c other = t.claimed.0.0.stays.others c other ∙ ap (λ (z : View). claim_of c z) t.loses.view
 
-  scan_steps_quiet : AreQuiet (s.clear ++ s.loads)
-  scan_steps_quiet = quiet_then s.clear s.loads (clear_quiet (length old.view.seen) s.clear s.cleared).0 (scan_quiet 0 (CLAIMS * old.view.plan.seats) s.loads s.kinds).0
+  turn_own : again.view.own ≡ now.view.own
+  turn_own = t.claimed.0.0.stays.own ∙ ap (λ (z : View). z.own) t.loses.view
 
-  scan_steps_few : length (s.clear ++ s.loads) ≤ CLAIMS * old.view.plan.seats + 1
-  scan_steps_few =
-      let a = (clear_quiet (length old.view.seen) s.clear s.cleared).1 in
-      let b = (scan_quiet 0 (CLAIMS * old.view.plan.seats) s.loads s.kinds).1 in
-      omega (arith, length-append s.clear s.loads)
+  pub turn_holding : again.holding ≡ node ∷ []
+  turn_holding = ap (λ (z : SeatData). z.holding) t.claimed.0.0.stays.same ∙ (ap (λ (z : SeatData). z.holding) t.loses.same ∙ t.working.holding)
 
-  scan_runs : (k : ℕ) → Runs k (s.clear ++ s.loads) old new
-  scan_runs k = record {
-    goes = goes_still k (s.clear ++ s.loads) old.view new.view (ap (λ (z : View). z.plan) scan_view) (ap (λ (z : View). z.numbers) scan_view) (ap (λ (z : View). z.stands) scan_view) (ap (λ (z : View). z.since) scan_view)
-        (ap (λ (z : View). z.changes) scan_view) (ap (λ (z : View). z.removes) scan_view) s.trail (ap (λ (z : View). z.seen) scan_view) scan_steps_quiet.lost;
-    object = ap (λ (z : SeatData). z.object) s.same;
-    first = ap (λ (z : SeatData). z.first) s.same;
-    nodes =
-        let both = length-filter_both (λ (n : ℕ). names n s.loads) (λ (n : ℕ). not (names n s.loads)) (λ n. refl) old.view.retired in
-        omega (arith, ap length s.free, ap length s.retired, length-append old.free (filter (λ (n : ℕ). not (names n s.loads)) old.view.retired), ap (λ (z : SeatData). length z.holding) s.same);
-    hold = s.claims HOLD (λ (e : HOLD ≡ WALK). absurd (omega arith));
-  }
+  pub turn_ours : IsOf shared again
+  turn_ours = goes_of turn_goes t.working.ours
 
-pub no_more : (xs : List ℕ) → length xs ≡ 0 → xs ≡ []
-no_more [] e = refl
-no_more (x ∷ xs) e = absurd cc
+  -- others changed the register
+  longer : length now.view.seen < length again.view.seen
+  longer =
+      let more = lost_longer reg (length now.view.seen) lost.view.plan lost.view.seen t.loses.changed in
+      let further = longer_seen lost.view.seen again.view.seen (t.claimed.0.0.goes None).seen in omega arith
 
--- ROOM
+  -- to another record
+  pub turned_other : is_same rec new ≡ false → HasTurnedOver shared reg node new (Some next) now again
+  turned_other other =
+      let left = t.working.left in
+      let claim = t.claimed.0.1 in (
+        turn_steps,
+        turn_goes,
+        turn_scanned,
+        turn_claims HOLD (λ e. absurd (omega arith)),
+        turn_claims WALK (λ e. absurd (omega arith)),
+        (
+          rec,
+          record {
+            ours = turn_ours;
+            there = t.working.there;
+            stands = claim.stands;
+            cell = claim.cell;
+            record_is = ap (λ (n : ℕ). register_at again.view n reg) claim.now_at ∙ t.claimed.1;
+            other = other;
+            found = claim.found;
+            holding = turn_holding;
+            own = subst (λ (o : List Held). has (nodes_of o) node ≡ true) (sym turn_own) t.working.own;
+            words = ap (λ (o : List Held). words_in o node) turn_own ∙ t.working.words;
+            mine = subst (λ (y : Claim). On y node) (sym (turn_claims OWN (λ e. absurd (omega arith)))) t.working.mine;
+            left = omega (arith, ap (λ (z : View). z.changes) turn_goes.only);
+            sound = t.law.sound;
+          },
+        ),
+        longer,
+      )
 
--- some node is free
-pub room_there : (before ended : SeatData) → HasEnded before ended → 0 < length ended.free → HasRoom before ended
-room_there before ended e some_free = let few = e.few in record {
-  steps = e.steps;
-  runs = ended_runs before ended e;
-  quiet = e.quiet;
-  few = omega arith;
-  cleared = record { back = e.back; walk = e.walk; own = e.own };
-  seen = ap (λ (z : View). z.seen) e.view;
-  holding = ap (λ (z : SeatData). z.holding) e.same;
-  none_free = λ none. absurd (omega (arith, ap length none));
-  scan = λ none. absurd (omega (arith, ap length none));
-}
+  -- to the new one: the node is put down
+  pub turn_down : {cleared put : SeatData} → cleared ≡ stepped (cleared_view OWN again.view) again → IsPutBack node cleared put → IsSeat put → PutsDown node again cleared put
+  turn_down ends back law = record { ends = ends; back = back; held = turn_holding; law = law }
 
--- none was, and the seat scanned
-pub room_made : (before ended after : SeatData) → HasEnded before ended → length ended.free ≡ 0 → HoldIsFree before.view → IsScan ended after → HasRoom before after
-room_made before ended after e none hold s =
-    let few = e.few in
-    let more = scan_steps_few ended after s in
-    let view = scan_view ended after s in
-    let steps : List Counted = s.clear ++ s.loads in
-    let seats : ended.view.plan ≡ before.view.plan = ap (λ (z : View). z.plan) e.view in
-    let plan : after.view.plan ≡ ended.view.plan = ap (λ (z : View). z.plan) view in
-    let least : number after.view ≡ number ended.view = ap (λ (z : View). number z) view in
-    let own_word : (c : ℕ) → c < CLAIMS → c ≢ WALK → found_at (claim_at (number after.view) c) s.loads ≡ (claim_of c ended.view).word
-    = λ c low other. ap (λ (x : ℕ). found_at (claim_at x c) s.loads) least ∙ (s.own_words c low ∙ ap (λ (y : Claim). y.word) (s.claims c other)) in
-    let holds : holds_record after.view ≡ holds_record before.view = ap holds_record view ∙ ap holds_record e.view in
-    record {
-      steps = e.steps ++ steps;
-      runs = λ k. runs_then k e.steps steps before ended after (ended_runs before ended e k) (scan_runs ended after s k);
-      quiet = quiet_then e.steps steps e.quiet (scan_steps_quiet ended after s);
-      few = omega (arith, length-append e.steps steps, ap (λ (p : Plan). CLAIMS * p.seats) seats);
-      cleared = record {
-        back = ap (λ (y : Claim). y.word) (s.claims BACK (λ (q : BACK ≡ WALK). absurd (omega arith))) ∙ e.back;
-        walk = s.walk_none;
-        own = ap (λ (y : Claim). y.word) (s.claims OWN (λ (q : OWN ≡ WALK). absurd (omega arith))) ∙ e.own;
-      };
-      seen = ap (λ (z : View). z.seen) view ∙ ap (λ (z : View). z.seen) e.view;
-      holding = ap (λ (z : SeatData). z.holding) s.same ∙ ap (λ (z : SeatData). z.holding) e.same;
-      none_free = λ _. sym (ap (λ (z : SeatData). z.free) e.same) ∙ no_more ended.free none;
-      scan = λ _. record {
-        scanned = record {
-          front = e.steps ++ s.clear;
-          loads = s.loads;
-          back = [];
-          whole = sym (append_assoc e.steps s.clear s.loads) ∙ ap (λ (l : List Counted). (e.steps ++ s.clear) ++ l) (sym (append-nil s.loads));
-          kinds = s.kinds ∙ ap (λ (p : Plan). scan_kinds 0 (CLAIMS * p.seats)) (sym plan);
-          back_none = own_word BACK (omega arith) (λ (q : BACK ≡ WALK). absurd (omega arith)) ∙ e.back;
-          walk_none = ap (λ (x : ℕ). found_at (claim_at x WALK) s.loads) least ∙ (s.own_words WALK (omega arith) ∙ s.walk_none);
-          own_none = own_word OWN (omega arith) (λ (q : OWN ≡ WALK). absurd (omega arith)) ∙ e.own;
-          hold_none = λ free. own_word HOLD (omega arith) (λ (q : HOLD ≡ WALK). absurd (omega arith)) ∙ (ap (λ (y : Claim). y.word) e.hold ∙ hold (sym holds ∙ free));
-        };
-        few = subst (λ (p : Plan). length after.view.retired ≤ CLAIMS * p.seats) (sym plan) s.few;
-      };
-    }
+  module _ {cleared put : SeatData} (p : PutsDown node again cleared put) (same : is_same rec new ≡ true) where
+    there_now : is_same (register_at put.view (length put.view.seen) reg) new ≡ true
+    there_now = ap (λ (l : List Entry). is_same ((state_at l (length l)).registers reg) new) (ap (λ (z : View). z.seen) (put_view p))
+        ∙ (ap (λ (l : List ℕ). is_same l new) t.claimed.1 ∙ same)
+
+    module _ {look : ℕ} {steps : List Counted} {before : SeatData} (c : IsChanging shared reg steps look before now) where
+      abbrev done_steps : List Counted
+      done_steps = (steps ++ turn_steps) ++ put_step p
+
+      done_changing : IsChanging shared reg done_steps look before put
+      done_changing = changing_then
+          (changing_then c turn_goes turn_scanned (turn_claims HOLD (λ e. absurd (omega arith))) (turn_claims WALK (λ e. absurd (omega arith))))
+          (put_goes p reg) refl (put_others p HOLD (λ e. absurd (omega arith))) (put_others p WALK (λ e. absurd (omega arith)))
+
+      pub done_end : MayEnd reg look (length put.view.seen) (Store reg new) Done done_steps before put
+      done_end = changing_end (length put.view.seen) (Store reg new) Done done_changing (put_holding p) (λ q inside. inside) (λ q. refl) done_changing.calling.looked.upto
+          (right_at put.view (length put.view.seen) (Store reg new) Done (omega arith) refl (sym (ap (λ (b : Bool). not b && true) there_now))) (λ need free e. absurd cc)
+
+      pub store_done : {final : SeatData} → EndsAs (length put.view.seen) (Store reg new) Done put final → IsSeat final → IsStored reg new StoreDone before final × IsReady shared final
+      store_done is law =
+          let e = ended_as c.began done_end is law done_changing.calling.hold done_changing.walk (put_own p) (λ q held. refl) in
+          let all : List Counted = done_steps ++ clear_step put ∷ [] in
+          let tried = turn_tried in
+          let none = turn_scanned in
+          let both : scan_loads all ≡ scan_loads steps =
+          omega (arith, scan_loads-append done_steps (clear_step put ∷ []), scan_loads-append (steps ++ turn_steps) (put_step p), scan_loads-append steps turn_steps) in
+          let some_tried : 0 < exchanges all =
+          omega (arith, exchanges-append done_steps (clear_step put ∷ []), exchanges-append (steps ++ turn_steps) (put_step p), exchanges-append steps turn_steps) in (
+            record {
+              answered = e.has.answered;
+              hold = e.hold;
+              scans = subst (λ (l : List Counted). ScansForWant Done l before) (sym e.has.steps_are) (scans_fit Done steps all before c.scans both some_tried);
+              full = λ need free e. absurd cc;
+              enough = λ many. refl;
+            },
+            e.ready,
+          )

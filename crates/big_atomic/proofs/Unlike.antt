@@ -4,19 +4,19 @@ use Rattle.std.proofs.Math.Seq.{take-suc}
 use Rattle.std.proofs.lemmas.Bool.{cases_Bool, cases_eq, false≢true, false_from_ne_true, and_parts, not-true}
 use mathlib.Core.Option.{some, some-injective, some-ne-none}
 use lib.ListN.{get_elem?}
-use Rattle.big_atomic.specs.Storing.{first_unlike}
+use Rattle.big_atomic.specs.Calling.{first_unlike}
 use Rattle.seat_history.proofs.Changed.{same_from_words, set_at_here, words_from_same}
 use Rattle.seat_history.proofs.Histories.{contents_from-append}
 use Rattle.seat_history.specs.Change.{is_change}
 use Rattle.seat_history.specs.Contents.{Contents, blank, set_at}
 use Rattle.seat_history.specs.History.{contents_from, state_at}
+use Rattle.seat_history.specs.Key.{key_number}
 use Rattle.seat_history.specs.Step.{contents_after, is_same}
 use Rattle.seat_history.specs.declared.call.Call.TheVariants.{Load, Store, Swap, Hold, Look, Release, Find, Insert, Replace, Remove}
 use Rattle.seat_history.specs.declared.call.Call.{Call}
 use Rattle.seat_history.specs.declared.entry.Entry.{Entry}
 use Rattle.step_rules.proofs.Places.{at_below}
-use Rattle.step_rules.specs.History.{IsHistory, NoneOn, cell_of}
-use Rattle.step_rules.specs.Layout.{cells}
+use Rattle.step_rules.specs.History.{IsHistory, NoneOn, cell_of, key_cell}
 use Rattle.step_rules.specs.declared.plan.Plan.{Plan}
 
 -- where it isn't so that none of the entries is on the cell, one is
@@ -37,7 +37,8 @@ value_at (x ∷ l) (suc i) a d e = value_at l i a d e
 
 -- the contents after the entry at a place
 state_after : (log : List Entry) (i : ℕ) (e : Entry) → get_elem? log i ≡ some e → state_at log (suc i) ≡ contents_after (state_at log i) e.call
-state_after log i e at = ap (contents_from blank) (take-suc log i e (at_below log i e at) ∙ ap (λ (z : Entry). take i log ++ z ∷ []) (value_at log i e e at)) ∙ contents_from-append blank (take i log) (e ∷ [])
+state_after log i e at = ap (contents_from blank)
+    (take-suc log i e (at_below log i e at) ∙ ap (λ (z : Entry). take i log ++ z ∷ []) (value_at log i e e at)) ∙ contents_from-append blank (take i log) (e ∷ [])
 
 -- the register k after a call on it sets it, where it was x before
 set_other : (f : ℕ → List ℕ) (reg k : ℕ) (new : List ℕ) → reg ≡ k → is_same (f reg) new ≡ false → set_at f reg new k ≢ f k
@@ -58,12 +59,13 @@ changes_register p c (Hold reg) k inside on change = absurd (false≢true change
 changes_register p c Look k inside on change = absurd (false≢true change)
 changes_register p c Release k inside on change = absurd (false≢true change)
 changes_register p c (Find key) k inside on change = absurd (false≢true change)
-changes_register p c (Insert key val) k inside on change = let q : cells p ≡ k = on in absurd (omega arith)
-changes_register p c (Replace key old new) k inside on change = let q : cells p ≡ k = on in absurd (omega arith)
-changes_register p c (Remove key) k inside on change = let q : cells p ≡ k = on in absurd (omega arith)
+changes_register p c (Insert key val) k inside on change = let q : key_cell p (key_number key) ≡ k = on in absurd (omega arith)
+changes_register p c (Replace key old new) k inside on change = let q : key_cell p (key_number key) ≡ k = on in absurd (omega arith)
+changes_register p c (Remove key) k inside on change = let q : key_cell p (key_number key) ≡ k = on in absurd (omega arith)
 
 -- an entry on the register changes it, so it isn't old before it or after it
-pub unlike_at : (p : Plan) (log : List Entry) (at k : ℕ) (old : List ℕ) → IsHistory p log → k < p.registers → ¬ NoneOn p k (drop at log) → (q : ℕ) × (at ≤ q) × (q ≤ length log) × (is_same ((state_at log q).registers k) old ≡ false)
+pub unlike_at : (p : Plan) (log : List Entry) (at k : ℕ) (old : List ℕ) → IsHistory p log → k < p.registers → ¬ NoneOn p k (drop at log)
+    → (q : ℕ) × (at ≤ q) × (q ≤ length log) × (is_same ((state_at log q).registers k) old ≡ false)
 unlike_at p log at k old history inside some_on =
     let found = entry_on p k (drop at log) some_on in
     let i : ℕ = found.0 in
@@ -93,7 +95,8 @@ pub record IsFirst (reg : ℕ) (old : List ℕ) (seen : List Entry) (from till f
   pub before : (q : ℕ) → from ≤ q → q < f → is_same ((state_at seen q).registers reg) old ≡ true
 
 -- where there is an unlike place, the first one is found
-pub first_is : (reg : ℕ) (old : List ℕ) (seen : List Entry) (q n k : ℕ) → q ≤ k → k ≤ q + n → is_same ((state_at seen k).registers reg) old ≡ false → IsFirst reg old seen q (q + n) (first_unlike reg old seen q n)
+pub first_is : (reg : ℕ) (old : List ℕ) (seen : List Entry) (q n k : ℕ) → q ≤ k → k ≤ q + n → is_same ((state_at seen k).registers reg) old ≡ false
+    → IsFirst reg old seen q (q + n) (first_unlike reg old seen q n)
 first_is reg old seen q zero k above below e = record {
   late = omega arith;
   within = omega arith;
@@ -102,7 +105,8 @@ first_is reg old seen q zero k above below e = record {
 }
 first_is reg old seen q (suc n) k above below e = go (is_same ((state_at seen q).registers reg) old) refl (λ l. first_is reg old seen (suc q) n k l (omega arith) e)
   where
-    go : (b : Bool) → is_same ((state_at seen q).registers reg) old ≡ b → (suc q ≤ k → IsFirst reg old seen (suc q) (suc q + n) (first_unlike reg old seen (suc q) n)) → IsFirst reg old seen q (q + suc n) (cond b (first_unlike reg old seen (suc q) n) q)
+    go : (b : Bool) → is_same ((state_at seen q).registers reg) old ≡ b → (suc q ≤ k → IsFirst reg old seen (suc q) (suc q + n) (first_unlike reg old seen (suc q) n))
+        → IsFirst reg old seen q (q + suc n) (cond b (first_unlike reg old seen (suc q) n) q)
     go true is rest =
         let ne : q ≢ k = λ s. false≢true (sym e ∙ (ap (λ (z : ℕ). is_same ((state_at seen z).registers reg) old) (sym s) ∙ is)) in
         let r = rest (omega arith) in

@@ -1,4 +1,4 @@
+pub mod Calling
 pub mod Calls
-pub mod Looking
 pub mod Ready
-pub mod Storing
+pub mod Turns

@@ -1,12 +1,12 @@
 //! Registers of several words, with atomic loads, stores and compare-and-swaps, and held records.
 #![tactic(auto)]
 
+mod answering;
 mod answers;
+mod changing;
+mod claiming;
 mod holds;
 mod loads;
-mod looking;
-mod rooms;
-mod standing;
 mod stores;
 mod swaps;
 #[cfg(test)]

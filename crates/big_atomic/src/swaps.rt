@@ -1,39 +1,44 @@
-ghost use Rattle.std.specs.Prelude.{◌≡◌, ◌+◌, ◌*◌, ◌<◌, [], false, true, length};
-ghost use Rattle.big_atomic.specs.Calls.{HoldIsFree, IsSwapped, register_at};
-ghost use Rattle.big_atomic.specs.Storing.{HasClaim, IsAnswered, IsCalling, IsCleared, IsUnlike};
-ghost use Rattle.big_atomic.specs.declared.answers.Swap.TheVariants.{No as SwapNo};
+ghost use Rattle.std.specs.Prelude.{◌≡◌, ◌<◌, ℕ, List, [], length, true, false};
+ghost use Rattle.big_atomic.specs.Calling.{EndsSwap, HasClaim, HasOnlyLooked, IsChanging, SwapsFromLooks, refused_at};
+ghost use Rattle.big_atomic.specs.Calls.{IsSwapped, register_at};
+ghost use Rattle.big_atomic.specs.Ready.{IsReady};
 ghost use Rattle.seat_history.specs.Step.{is_same};
-ghost use Rattle.step_rules.specs.SeatData.{IsOf};
-ghost use Rattle.step_rules.specs.declared.layout.TheConstants.{NODE_WIDTH};
+ghost use Rattle.seat_history.specs.declared.call.Call.TheVariants.{Swap as SwapCall};
+ghost use Rattle.seat_history.specs.declared.reply.Reply.TheVariants.{No as NoReply};
+ghost use Rattle.step_rules.specs.Claims.{BACK, OWN};
+ghost use Rattle.step_rules.specs.SeatData.{IsOf, IsSeat, SeatData};
+ghost use Rattle.step_rules.specs.Steps.{MayAnswer, stepped};
+ghost use Rattle.step_rules.specs.Views.{claim_of, cleared_view, stood_view};
+ghost use Rattle.step_rules.specs.declared.view.Counted.{Counted};
 
+use crate::answering::answer_now;
 use crate::answers::Swap;
-use crate::looking::{end_claims, record_at, tried};
-use crate::rooms::{make_room, prepared};
-use crate::standing::stand_now;
-use hazard_claims::{Claim, Recheck};
+use crate::changing::{end_change, exchange, make_room, prepare_node};
+use crate::claiming::{read_record, try_claim};
+use hazard_claims::{Claim, Recheck, release};
 use node_pool::put_back;
 use seat_history::{Call, Rec, Reply};
 use std::marker::Brand;
-use step_rules::{Place, Seat, Shared, backup_exchange};
+use step_rules::{Place, Seat, Shared};
 
 /// Gives a register the new record where it has the old one. No needs no node; where the two records
 /// are the same it exchanges nothing. Full comes only where no node is free after a scan of this call.
 /// One exchange is tried: where another caller's change comes before it, the register wasn't the old
 /// record at some place since the look, and No stands at the first such place.
 pub fn compare_and_swap(shared: &Shared, seat: &mut Seat, reg: u32, old: Rec, new: Rec) -> Swap
-    requires ours { IsOf shared.now seat.old }
+    requires ready { IsReady shared.now seat.old }
     requires there { reg < shared.now.plan.registers }
-    requires idle { seat.old.holding ≡ [] }
-    requires hold { HoldIsFree seat.old.view }
     requires left { 0 < seat.old.view.changes }
+    ensures ready { IsReady shared.now seat.new }
     ensures swapped { IsSwapped reg old new result seat.old seat.new }
 {
     seat.law();
-    make_room(shared, seat);
-    seat.law();
-    match tried(shared, seat, Claim::Back, reg) {
+    match try_claim(shared, seat, Claim::Back, reg) {
         Recheck::Same(word) => swap_claimed::<Brand>(shared, seat, reg, word, old, new),
-        Recheck::Other(_) => refused::<Brand>(shared, seat, reg, old, new),
+        Recheck::Other(_) => {
+            refuse::<Brand>(shared, seat, reg, old, new);
+            Swap::No
+        }
     }
 }
 
@@ -46,33 +51,30 @@ fn swap_claimed<P: Place>(
     old: Rec,
     new: Rec,
 ) -> Swap
-    requires ours { IsOf shared.now seat.old }
-    requires calling { IsCalling reg P.place seat.old }
-    requires claim { HasClaim reg word seat.old.view }
-    ensures answered { IsAnswered reg old new P.place 1 1 (2 * NODE_WIDTH + 7) result seat.old seat.new }
+    requires past { (before : SeatData) × (steps : List Counted) × HasOnlyLooked shared.now reg steps P.place before seat.old }
+    requires claim { HasClaim BACK reg word seat.old.view }
+    ensures ends { SwapsFromLooks shared.now reg old new P.place result seat.old seat.new }
 {
-    let rec = record_at(shared, seat, (word / 2) as u32);
+    let rec = read_record(shared, seat, (word / 2) as u32);
     seat.law();
     if rec != old {
-        return refused::<P>(shared, seat, reg, old, new);
+        refuse::<P>(shared, seat, reg, old, new);
+        return Swap::No;
     }
     let call = Call::Swap { reg, old, new };
     if old == new {
-        end_claims(shared, seat);
-        stand_now(shared, seat, call, Reply::Yes);
+        answer_now(shared, seat, call, Reply::Yes);
         return Swap::Yes;
     }
-    if seat.free() == 0 {
-        end_claims(shared, seat);
-        seat.law();
-        stand_now(shared, seat, call, Reply::Full { need: 1, free: 0 });
+    if !make_room(shared, seat) {
+        answer_now(shared, seat, call, Reply::Full { need: 1, free: 0 });
         return Swap::Full { need: 1, free: 0 };
     }
-    exchanged::<P>(shared, seat, reg, word, old, new)
+    swap_record::<P>(shared, seat, reg, word, old, new)
 }
 
 // Tries the exchange for a register that has the old record.
-fn exchanged<P: Place>(
+fn swap_record<P: Place>(
     shared: &Shared,
     seat: &mut Seat,
     reg: u32,
@@ -80,50 +82,39 @@ fn exchanged<P: Place>(
     old: Rec,
     new: Rec,
 ) -> Swap
-    requires ours { IsOf shared.now seat.old }
-    requires calling { IsCalling reg P.place seat.old }
-    requires claim { HasClaim reg word seat.old.view }
-    requires free { 0 < length seat.old.free }
-    requires found { is_same (register_at seat.old.view (length seat.old.view.seen) reg) old ≡ true }
+    requires past { (before : SeatData) × (steps : List Counted) × IsChanging shared.now reg steps P.place before seat.old }
+    requires claim { HasClaim BACK reg word seat.old.view }
+    requires found { register_at seat.old.view (length seat.old.view.seen) reg ≡ old }
     requires other { is_same old new ≡ false }
-    ensures answered { IsAnswered reg old new P.place 1 1 (NODE_WIDTH + 7) result seat.old seat.new }
+    requires free { 0 < length seat.old.free }
+    requires idle { seat.old.holding ≡ [] }
+    requires own { (claim_of OWN seat.old.view).word ≡ 0 }
+    ensures ends { EndsSwap shared.now reg old new P.place result seat.old seat.new }
 {
-    let node = prepared(shared, seat, new);
+    let node = prepare_node(shared, seat, new);
     seat.law();
     let call = Call::Swap { reg, old, new };
-    if backup_exchange(shared, seat, reg, word, node, call) == word {
-        end_claims(shared, seat);
+    if exchange(shared, seat, reg, word, node, call) {
+        end_change(shared, seat);
         return Swap::Yes;
     }
-    seat.law();
-    end_claims(shared, seat);
+    release(shared, seat, Claim::Own);
     put_back(shared, seat, node);
     seat.law();
-    stand_unlike::<P>(shared, seat, reg, old, new);
+    refuse::<P>(shared, seat, reg, old, new);
     Swap::No
 }
 
-// Ends the claims, and answers No.
-fn refused<P: Place>(shared: &Shared, seat: &mut Seat, reg: u32, old: Rec, new: Rec) -> Swap
+// Ends the Back claim, and answers No, at the first place from the place `P` on at which the register
+// isn't the old record.
+fn refuse<P: Place>(shared: &Shared, seat: &mut Seat, reg: u32, old: Rec, new: Rec)
     requires ours { IsOf shared.now seat.old }
-    requires calling { IsCalling reg P.place seat.old }
-    requires unlike { IsUnlike reg old P.place seat.old.view }
-    ensures answered { IsAnswered reg old new P.place 0 0 3 result seat.old seat.new }
+    requires may { MayAnswer (refused_at P.place (SwapCall reg old new) seat.old.view) (SwapCall reg old new) NoReply seat.old }
+    ensures seat { seat.new ≡ stepped (stood_view (refused_at P.place (SwapCall reg old new) seat.old.view) (SwapCall reg old new) NoReply (cleared_view BACK seat.old.view)) seat.old }
+    ensures law { IsSeat seat.new }
 {
-    end_claims(shared, seat);
-    stand_unlike::<P>(shared, seat, reg, old, new);
-    Swap::No
-}
-
-// Adds the stand of a call that is answered No, at the first place from the place `P` on at which the
-// register isn't the old record.
-fn stand_unlike<P: Place>(shared: &Shared, seat: &mut Seat, reg: u32, old: Rec, new: Rec)
-    requires ours { IsOf shared.now seat.old }
-    requires calling { IsCalling reg P.place seat.old }
-    requires cleared { IsCleared seat.old.view }
-    requires unlike { IsUnlike reg old P.place seat.old.view }
-    ensures answered { IsAnswered reg old new P.place 0 0 0 SwapNo seat.old seat.new }
-{
+    seat.law();
+    release(shared, seat, Claim::Back);
     seat.stand::<Brand>(shared, Call::Swap { reg, old, new }, Reply::No);
     seat.law();
 }

@@ -1,18 +1,44 @@
 use Rattle.std.proofs.Common.{arith}
-use Rattle.big_atomic.proofs.Answering.{looked, may_answer_look}
-use Rattle.big_atomic.proofs.Turns.{may_load}
+use Rattle.big_atomic.proofs.Claimed.{may_load}
+use Rattle.big_atomic.proofs.Reading.{look_ready, looked, may_look}
 use Rattle.step_rules.specs.Claims.{HOLD}
 use Rattle.big_atomic.proofs.holds.look.Goals as goal
 
-pub record_at-rec-requires-clause-known : goal.record_at-rec-requires-clause-known
-record_at-rec-requires-clause-known c = may_load HOLD c.held_node-node.result c.args.seat.now c.law.ensures.sound (omega arith) c.held_node-node.ensures
+pub read_record-rec-requires-clause-known : goal.read_record-rec-requires-clause-known
+read_record-rec-requires-clause-known c = may_load HOLD c.held_node-node.result c.args.seat.now c.law.ensures.sound (omega arith) c.held_node-node.ensures
 
 pub stand_now-requires-clause-may : goal.stand_now-requires-clause-may
-stand_now-requires-clause-may c = let held = c.requires.held in
-    may_answer_look held.0 c.record_at-rec.result c.held_node-node.result c.args.seat.now c.record_at-rec.new.seat c.end_claims.new.seat held.1 c.held_node-node.ensures c.law.ensures.sound c.record_at-rec.ensures.read c.end_claims.ensures.ended
+stand_now-requires-clause-may c = may_look (record {
+  holds = (c.requires.ready.held c.requires.held).1;
+  on = c.held_node-node.ensures;
+  first = c.law.ensures.sound;
+  read = c.read_record-rec.ensures.read;
+  last = c.law-2.ensures.sound;
+})
 
-pub returns : goal.returns
-returns c = let held = c.requires.held in record {
-  looked = looked held.0 c.record_at-rec.result c.held_node-node.result c.args.seat.now c.record_at-rec.new.seat c.end_claims.new.seat held.1 c.held_node-node.ensures c.law.ensures.sound c.record_at-rec.ensures.read c.end_claims.ensures.ended c.stand_now.new.seat
-      c.requires.idle c.stand_now.ensures.seat c.stand_now.ensures.sound;
-}
+pub returns-clause-ready : goal.returns-clause-ready
+returns-clause-ready c = look_ready
+    (record {
+      holds = (c.requires.ready.held c.requires.held).1;
+      on = c.held_node-node.ensures;
+      first = c.law.ensures.sound;
+      read = c.read_record-rec.ensures.read;
+      last = c.law-2.ensures.sound;
+    })
+    c.args.shared.now
+    c.stand_now.new.seat
+    c.requires.ready
+    c.stand_now.ensures.seat
+
+pub returns-clause-looked : goal.returns-clause-looked
+returns-clause-looked c = looked
+    (record {
+      holds = (c.requires.ready.held c.requires.held).1;
+      on = c.held_node-node.ensures;
+      first = c.law.ensures.sound;
+      read = c.read_record-rec.ensures.read;
+      last = c.law-2.ensures.sound;
+    })
+    c.stand_now.new.seat
+    c.stand_now.ensures.seat
+    c.stand_now.ensures.law

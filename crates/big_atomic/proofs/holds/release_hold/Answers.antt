@@ -1,10 +1,14 @@
-use Rattle.big_atomic.proofs.Answering.{dropped, may_answer_release}
+use Rattle.big_atomic.proofs.Reading.{may_release, release_ready, released}
 use Rattle.big_atomic.proofs.holds.release_hold.Goals as goal
 
 pub stand_now-requires-clause-may : goal.stand_now-requires-clause-may
-stand_now-requires-clause-may c = may_answer_release c.args.seat.now c.release.new.seat c.end_claims.new.seat c.release.ensures.released c.end_claims.ensures.ended
+stand_now-requires-clause-may c = may_release {before = c.args.seat.now} (record { cleared = c.release.ensures.released; first = c.law.ensures.sound; last = c.law-2.ensures.sound })
 
-pub returns : goal.returns
-returns c = record {
-  dropped = dropped c.args.seat.now c.release.new.seat c.end_claims.new.seat c.release.ensures.released c.end_claims.ensures.ended c.stand_now.new.seat c.requires.idle c.stand_now.ensures.seat c.stand_now.ensures.sound;
-}
+pub returns-clause-ready : goal.returns-clause-ready
+returns-clause-ready c =
+    release_ready (record { cleared = c.release.ensures.released; first = c.law.ensures.sound; last = c.law-2.ensures.sound })
+    c.args.shared.now c.stand_now.new.seat c.requires.ready c.stand_now.ensures.seat
+
+pub returns-clause-released : goal.returns-clause-released
+returns-clause-released c = released (record { cleared = c.release.ensures.released; first = c.law.ensures.sound; last = c.law-2.ensures.sound })
+    c.stand_now.new.seat c.stand_now.ensures.seat c.stand_now.ensures.law

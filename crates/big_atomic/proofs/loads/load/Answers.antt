@@ -1,15 +1,18 @@
-use Rattle.big_atomic.proofs.Answering.{loaded, may_answer_load}
-use Rattle.step_rules.specs.Claims.{BACK}
+use Rattle.std.proofs.Common.{None, refl}
+use Rattle.big_atomic.proofs.Answered.{goes_of, may_answer}
+use Rattle.big_atomic.proofs.Reading.{has_read, load_ends, load_ready, loaded}
 use Rattle.big_atomic.proofs.loads.load.Goals as goal
 
-pub stand_now-requires-clause-may : goal.stand_now-requires-clause-may
-stand_now-requires-clause-may c =
-    let found = c.claimed-found.result in
-    may_answer_load BACK c.args.reg found.word found.rec c.args.seat.now c.claimed-found.new.seat c.end_claims.new.seat c.law.ensures.sound c.claimed-found.ensures.claimed c.end_claims.ensures.ended c.args.shared.now.plan c.requires.ours.plan c.requires.there
+pub answer_now-requires-clause-ours : goal.answer_now-requires-clause-ours
+answer_now-requires-clause-ours c = goes_of (c.claim_record-found.ensures.claimed.0.0.goes None) c.requires.ready.ours
 
-pub returns : goal.returns
-returns c =
-    let found = c.claimed-found.result in
-    record {
-      loaded = loaded c.args.reg found.word found.rec c.args.seat.now c.claimed-found.new.seat c.end_claims.new.seat c.stand_now.new.seat c.requires.idle c.law.ensures.sound c.claimed-found.ensures.claimed c.end_claims.ensures.ended c.stand_now.ensures.seat c.stand_now.ensures.sound;
-    }
+pub answer_now-requires-clause-may : goal.answer_now-requires-clause-may
+answer_now-requires-clause-may c = may_answer (load_ends (has_read c.law.ensures c.requires.ready c.requires.there c.claim_record-found.ensures.claimed))
+
+pub returns-clause-ready : goal.returns-clause-ready
+returns-clause-ready c = load_ready (has_read c.law.ensures c.requires.ready c.requires.there c.claim_record-found.ensures.claimed) refl
+    c.args.shared.now c.answer_now.new.seat c.requires.ready c.answer_now.ensures.seat
+
+pub returns-clause-loaded : goal.returns-clause-loaded
+returns-clause-loaded c = loaded (has_read c.law.ensures c.requires.ready c.requires.there c.claim_record-found.ensures.claimed) refl
+    c.answer_now.new.seat c.answer_now.ensures.seat c.answer_now.ensures.law

@@ -1,24 +1,56 @@
-use Rattle.std.proofs.Common.{◌<◌, subst, sym}
-use Rattle.big_atomic.proofs.Calling.{back_claim, still_ours}
-use Rattle.big_atomic.proofs.Installing.{call_calling, call_ours, stored}
-use Rattle.step_rules.specs.declared.plan.Plan.{Plan}
+use Rattle.std.proofs.Common.{◌∙◌, None, sym}
+use Rattle.big_atomic.proofs.Answered.{goes_of, may_answer}
+use Rattle.big_atomic.proofs.Deciding.{begins, room_ours}
+use Rattle.big_atomic.proofs.Shortage.{short_end}
+use Rattle.big_atomic.proofs.StoreEnds.{done_at_once, filled, reads_first, store_full, store_short, store_unchanged}
 use Rattle.big_atomic.proofs.stores.store.Goals as goal
 
-pub claimed-found-requires-clause-ours : goal.claimed-found-requires-clause-ours
-claimed-found-requires-clause-ours c = still_ours c.args.shared.now c.args.reg c.make_room.ensures.room.steps c.args.seat.now c.make_room.new.seat c.requires.ours (c.make_room.ensures.room.runs c.args.reg)
+pub answer_now-requires-clause-ours : goal.answer_now-requires-clause-ours
+answer_now-requires-clause-ours c = goes_of (c.claim_record-found.ensures.claimed.0.0.goes None) c.requires.ready.ours
 
-pub store_claimed-requires-clause-ours : goal.store_claimed-requires-clause-ours
-store_claimed-requires-clause-ours c = call_ours c.args.shared.now c.args.reg c.claimed-found.result.word c.claimed-found.result.rec c.args.seat.now c.make_room.new.seat c.claimed-found.new.seat c.requires.ours c.make_room.ensures.room c.claimed-found.ensures.claimed
+pub answer_now-requires-clause-may : goal.answer_now-requires-clause-may
+answer_now-requires-clause-may c =
+    let r = reads_first (begins c.requires.ready c.requires.there c.requires.left c.law.ensures) c.claim_record-found.ensures.claimed c.law-2.ensures in
+    may_answer (done_at_once r c.args.new (sym c.eq.ensures ∙ c.if-eq.true))
 
-pub store_claimed-requires-clause-calling : goal.store_claimed-requires-clause-calling
-store_claimed-requires-clause-calling c = call_calling c.args.reg c.claimed-found.result.word c.claimed-found.result.rec c.args.seat.now c.make_room.new.seat c.claimed-found.new.seat c.make_room.ensures.room c.claimed-found.ensures.claimed (subst (λ (p : Plan). c.args.reg < p.registers) (sym c.requires.ours.plan) c.requires.there) c.requires.idle c.requires.left
-    c.law.ensures.sound c.law-2.ensures.sound
+pub returns-then-eq : goal.returns-then-eq
+returns-then-eq c =
+    let r = reads_first (begins c.requires.ready c.requires.there c.requires.left c.law.ensures) c.claim_record-found.ensures.claimed c.law-2.ensures in
+    let s = store_unchanged r c.args.new (sym c.eq.ensures ∙ c.if-eq.true) c.answer_now.ensures.seat c.answer_now.ensures.law in
+    record { ready = s.1; stored = s.0 }
 
-pub store_claimed-requires-clause-claim : goal.store_claimed-requires-clause-claim
-store_claimed-requires-clause-claim c = back_claim c.args.reg c.claimed-found.result.word c.claimed-found.result.rec c.make_room.new.seat c.claimed-found.new.seat c.claimed-found.ensures.claimed
+pub make_room-requires : goal.make_room-requires
+make_room-requires c = record { ours = goes_of (c.claim_record-found.ensures.claimed.0.0.goes None) c.requires.ready.ours }
+
+-- no node is free
+pub answer_now-requires-then-not-make_room : goal.answer_now-requires-then-not-make_room
+answer_now-requires-then-not-make_room c =
+    let r = reads_first (begins c.requires.ready c.requires.there c.requires.left c.law.ensures) c.claim_record-found.ensures.claimed c.law-2.ensures in
+    record {
+      ours = room_ours (goes_of (c.claim_record-found.ensures.claimed.0.0.goes None) c.requires.ready.ours) c.if-not-make_room.ensures.room;
+      may = may_answer (short_end (store_short r c.args.new (sym c.eq.ensures ∙ c.if-eq.false) c.if-not-make_room.ensures.room c.make_room.ensures.law));
+    }
+
+pub returns-then-not-make_room : goal.returns-then-not-make_room
+returns-then-not-make_room c =
+    let r = reads_first (begins c.requires.ready c.requires.there c.requires.left c.law.ensures) c.claim_record-found.ensures.claimed c.law-2.ensures in
+    let s = store_full r c.args.new (sym c.eq.ensures ∙ c.if-eq.false) c.if-not-make_room.ensures.room c.make_room.ensures.law
+    c.answer_now-then-not-make_room.ensures.seat c.answer_now-then-not-make_room.ensures.law in
+    record { ready = s.1; stored = s.0 }
+
+-- a node is taken
+pub prepare_node-node-requires-clause-ours : goal.prepare_node-node-requires-clause-ours
+prepare_node-node-requires-clause-ours c = room_ours (goes_of (c.claim_record-found.ensures.claimed.0.0.goes None) c.requires.ready.ours) c.if-not-make_room.ensures.room
+
+pub install-requires : goal.install-requires
+install-requires c =
+    let r = reads_first (begins c.requires.ready c.requires.there c.requires.left c.law.ensures) c.claim_record-found.ensures.claimed c.law-2.ensures in
+    let t = filled r (sym c.eq.ensures ∙ c.if-eq.false) c.if-not-make_room.ensures.room c.make_room.ensures.law c.prepare_node-node.ensures.prepared c.law-3.ensures in
+    record { past = (c.args.seat.now, t.0, t.1, t.2.changing); working = (c.claim_record-found.result.rec, t.2.working) }
 
 pub returns : goal.returns
-returns c = record {
-  stored = stored c.args.reg c.claimed-found.result.word c.claimed-found.result.rec c.args.new c.store_claimed.result c.args.seat.now c.make_room.new.seat c.claimed-found.new.seat c.store_claimed.new.seat c.make_room.ensures.room c.claimed-found.ensures.claimed
-      c.requires.idle c.law.ensures.sound c.law-2.ensures.sound c.store_claimed.ensures.put;
-}
+returns c =
+    let r = reads_first (begins c.requires.ready c.requires.there c.requires.left c.law.ensures) c.claim_record-found.ensures.claimed c.law-2.ensures in
+    let t = filled r (sym c.eq.ensures ∙ c.if-eq.false) c.if-not-make_room.ensures.room c.make_room.ensures.law c.prepare_node-node.ensures.prepared c.law-3.ensures in
+    let s = c.install.ensures.done c.args.seat.now t.0 t.1 t.2.changing in
+    record { ready = s.1; stored = s.0 }

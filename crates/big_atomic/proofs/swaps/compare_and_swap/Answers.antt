@@ -1,43 +1,59 @@
-use Rattle.std.proofs.Common.{◌+◌, ◌*◌, ◌<◌, arith, length, subst, sym}
-use Rattle.big_atomic.proofs.Calling.{back_claim, still_ours}
-use Rattle.big_atomic.proofs.Swapping.{changed_unlike, look_calling, look_is, look_ours, look_swapped}
-use Rattle.big_atomic.specs.Calls.{register_at}
-use Rattle.big_atomic.specs.Storing.{tried_at}
-use Rattle.step_rules.specs.declared.layout.TheConstants.{NODE_WIDTH}
-use Rattle.step_rules.specs.declared.plan.Plan.{Plan}
+use Rattle.std.proofs.Common.{ℕ, List, None, arith, inl}
+use Rattle.big_atomic.proofs.Answered.{EndsAs, goes_of}
+use Rattle.big_atomic.proofs.Deciding.{begins}
+use Rattle.big_atomic.proofs.Refusing.{may_refuse, refused}
+use Rattle.big_atomic.proofs.SwapEnds.{tried_only, tried_refuses}
+use Rattle.big_atomic.specs.Calling.{Began, HasTried, SwapsFromLooks, refused_at, tried_at}
+use Rattle.big_atomic.specs.Calls.{IsSwapped}
+use Rattle.big_atomic.specs.Ready.{IsReady}
+use Rattle.big_atomic.specs.declared.answers.Swap.{Swap as Answer}
+use Rattle.big_atomic.specs.declared.answers.Swap.TheVariants.{No as SwapNo}
+use Rattle.hazard_claims.specs.declared.answers.Recheck.TheVariants.{Other, Same}
+use Rattle.seat_history.specs.declared.call.Call.TheVariants.{Swap}
+use Rattle.seat_history.specs.declared.reply.Reply.TheVariants.{No}
+use Rattle.step_rules.specs.Claims.{BACK}
+use Rattle.step_rules.specs.SeatData.{IsSeat, ObjectData, SeatData}
 use Rattle.big_atomic.proofs.swaps.compare_and_swap.Goals as goal
 
-pub tried-requires-clause-ours : goal.tried-requires-clause-ours
-tried-requires-clause-ours c = still_ours c.args.shared.now c.args.reg c.make_room.ensures.room.steps c.args.seat.now c.make_room.new.seat c.requires.ours (c.make_room.ensures.room.runs c.args.reg)
+pub swap_claimed-requires-clause-past : goal.swap_claimed-requires-clause-past
+swap_claimed-requires-clause-past c =
+    let t = c.in-Same.ensures.tried in
+    (c.args.seat.now, t.0.steps, tried_only (begins c.requires.ready c.requires.there c.requires.left c.law.ensures) t.0 t.1)
 
-pub swap_claimed-requires-clause-ours : goal.swap_claimed-requires-clause-ours
-swap_claimed-requires-clause-ours c = look_ours c.args.reg c.in-Same.ensures.tried.0.look c.in-Same.ensures.tried.0.steps c.args.seat.now c.make_room.new.seat c.tried.new.seat c.make_room.ensures.room c.in-Same.ensures.tried.0.went c.in-Same.ensures.tried.0.only c.in-Same.ensures.tried.0.same c.in-Same.ensures.tried.0.others c.in-Same.ensures.tried.1 (subst (λ (p : Plan). c.args.reg < p.registers) (sym c.requires.ours.plan) c.requires.there) c.requires.idle c.requires.left c.law.ensures.sound c.law-2.ensures.sound c.in-Same.ensures.tried.0.sound c.args.shared.now c.requires.ours
+pub refuse-requires : goal.refuse-requires
+refuse-requires c =
+    let t = c.in-Other.ensures.tried in
+    record {
+      ours = goes_of (t.0.goes None) c.requires.ready.ours;
+      may = may_refuse c.args.new (tried_refuses (begins c.requires.ready c.requires.there c.requires.left c.law.ensures) t.0 t.1 c.args.old t.3);
+    }
 
-pub swap_claimed-requires-clause-calling : goal.swap_claimed-requires-clause-calling
-swap_claimed-requires-clause-calling c = look_calling c.args.reg c.in-Same.ensures.tried.0.look c.in-Same.ensures.tried.0.steps c.args.seat.now c.make_room.new.seat c.tried.new.seat c.make_room.ensures.room c.in-Same.ensures.tried.0.went c.in-Same.ensures.tried.0.only c.in-Same.ensures.tried.0.same c.in-Same.ensures.tried.0.others c.in-Same.ensures.tried.1 (subst (λ (p : Plan). c.args.reg < p.registers) (sym c.requires.ours.plan) c.requires.there) c.requires.idle c.requires.left c.law.ensures.sound c.law-2.ensures.sound c.in-Same.ensures.tried.0.sound
+-- whatever the rest of the call answers
+ends_same : {shared : ObjectData} {reg word : ℕ} {old new : List ℕ} {answer : Answer} {before now after : SeatData} → Began shared reg before → (t : HasTried BACK reg (Same word) before now)
+    → SwapsFromLooks shared reg old new (tried_at reg now.view) answer now after → IsSwapped reg old new answer before after × IsReady shared after
+ends_same {before = before} began t ends =
+    let s = t.0 in
+    let three = t.1 in
+    let none_lost = t.2 in
+    let none_tried = s.looks.none_exchanged in
+    ends before s.steps (tried_only began s three) (record { lost_most = omega arith; tried_most = omega arith; most = omega arith })
 
-pub swap_claimed-requires-clause-claim : goal.swap_claimed-requires-clause-claim
-swap_claimed-requires-clause-claim c = back_claim c.args.reg c.in-Same.word (register_at c.tried.new.seat.view (length c.tried.new.seat.view.seen) c.args.reg) c.make_room.new.seat c.tried.new.seat c.in-Same.ensures.tried.0
+ends_other : {shared : ObjectData} {reg word : ℕ} {old new : List ℕ} {before now after : SeatData} → Began shared reg before → (t : HasTried BACK reg (Other word) before now)
+    → EndsAs (refused_at (tried_at reg now.view) (Swap reg old new) now.view) (Swap reg old new) No now after → IsSeat after → IsSwapped reg old new SwapNo before after × IsReady shared after
+ends_other {old = old} {new = new} began t stood law =
+    let s = t.0 in
+    let three = t.1 in
+    let lost = t.2 in
+    let none_tried = s.looks.none_exchanged in
+    refused new (tried_refuses began s three old t.3) stood law
+    (record { lost_most = omega arith; tried_most = omega arith; most = omega arith }) (λ e. none_tried) (inl s.looks.none_scanned)
 
 pub returns-in-Same : goal.returns-in-Same
-returns-in-Same c = record {
-  swapped = look_swapped c.args.reg c.in-Same.ensures.tried.0.look c.in-Same.ensures.tried.0.steps c.args.seat.now c.make_room.new.seat c.tried.new.seat c.make_room.ensures.room c.in-Same.ensures.tried.0.went c.in-Same.ensures.tried.0.only c.in-Same.ensures.tried.0.same c.in-Same.ensures.tried.0.others c.in-Same.ensures.tried.1 (subst (λ (p : Plan). c.args.reg < p.registers) (sym c.requires.ours.plan) c.requires.there) c.requires.idle c.requires.left c.law.ensures.sound c.law-2.ensures.sound c.in-Same.ensures.tried.0.sound 1 1 (2 * NODE_WIDTH + 7) c.args.old c.args.new c.swap_claimed.result c.swap_claimed.new.seat
-      c.in-Same.ensures.tried.0.none (let none = c.in-Same.ensures.tried.2 in omega arith) (omega arith) (omega arith) c.swap_claimed.ensures.answered;
-}
-
-pub refused-requires-clause-ours : goal.refused-requires-clause-ours
-refused-requires-clause-ours c = look_ours c.args.reg c.in-Other.ensures.tried.0.look c.in-Other.ensures.tried.0.steps c.args.seat.now c.make_room.new.seat c.tried.new.seat c.make_room.ensures.room c.in-Other.ensures.tried.0.went c.in-Other.ensures.tried.0.only c.in-Other.ensures.tried.0.same c.in-Other.ensures.tried.0.others c.in-Other.ensures.tried.1 (subst (λ (p : Plan). c.args.reg < p.registers) (sym c.requires.ours.plan) c.requires.there) c.requires.idle c.requires.left c.law.ensures.sound c.law-2.ensures.sound c.in-Other.ensures.tried.0.sound c.args.shared.now c.requires.ours
-
-pub refused-requires-clause-calling : goal.refused-requires-clause-calling
-refused-requires-clause-calling c = look_calling c.args.reg c.in-Other.ensures.tried.0.look c.in-Other.ensures.tried.0.steps c.args.seat.now c.make_room.new.seat c.tried.new.seat c.make_room.ensures.room c.in-Other.ensures.tried.0.went c.in-Other.ensures.tried.0.only c.in-Other.ensures.tried.0.same c.in-Other.ensures.tried.0.others c.in-Other.ensures.tried.1 (subst (λ (p : Plan). c.args.reg < p.registers) (sym c.requires.ours.plan) c.requires.there) c.requires.idle c.requires.left c.law.ensures.sound c.law-2.ensures.sound c.in-Other.ensures.tried.0.sound
-
-pub refused-requires-clause-unlike : goal.refused-requires-clause-unlike
-refused-requires-clause-unlike c = changed_unlike c.args.reg c.args.old (tried_at c.args.reg c.tried.new.seat.view) c.in-Other.ensures.tried.0.look c.tried.new.seat.view c.in-Other.ensures.tried.0.sound
-    (look_calling c.args.reg c.in-Other.ensures.tried.0.look c.in-Other.ensures.tried.0.steps c.args.seat.now c.make_room.new.seat c.tried.new.seat c.make_room.ensures.room c.in-Other.ensures.tried.0.went c.in-Other.ensures.tried.0.only c.in-Other.ensures.tried.0.same c.in-Other.ensures.tried.0.others c.in-Other.ensures.tried.1 (subst (λ (p : Plan). c.args.reg < p.registers) (sym c.requires.ours.plan) c.requires.there) c.requires.idle c.requires.left c.law.ensures.sound c.law-2.ensures.sound c.in-Other.ensures.tried.0.sound).there
-    (let same = look_is c.args.reg c.in-Other.ensures.tried.0.look c.in-Other.ensures.tried.0.steps c.args.seat.now c.make_room.new.seat c.tried.new.seat c.make_room.ensures.room c.in-Other.ensures.tried.0.went c.in-Other.ensures.tried.0.only c.in-Other.ensures.tried.0.same c.in-Other.ensures.tried.0.others c.in-Other.ensures.tried.1 (subst (λ (p : Plan). c.args.reg < p.registers) (sym c.requires.ours.plan) c.requires.there) c.requires.idle c.requires.left c.law.ensures.sound c.law-2.ensures.sound c.in-Other.ensures.tried.0.sound in omega arith) c.in-Other.ensures.tried.0.changed
+returns-in-Same c =
+    let s = ends_same (begins c.requires.ready c.requires.there c.requires.left c.law.ensures) c.in-Same.ensures.tried c.swap_claimed.ensures.ends in
+    record { ready = s.1; swapped = s.0 }
 
 pub returns-in-Other : goal.returns-in-Other
-returns-in-Other c = record {
-  swapped = look_swapped c.args.reg c.in-Other.ensures.tried.0.look c.in-Other.ensures.tried.0.steps c.args.seat.now c.make_room.new.seat c.tried.new.seat c.make_room.ensures.room c.in-Other.ensures.tried.0.went c.in-Other.ensures.tried.0.only c.in-Other.ensures.tried.0.same c.in-Other.ensures.tried.0.others c.in-Other.ensures.tried.1 (subst (λ (p : Plan). c.args.reg < p.registers) (sym c.requires.ours.plan) c.requires.there) c.requires.idle c.requires.left c.law.ensures.sound c.law-2.ensures.sound c.in-Other.ensures.tried.0.sound 0 0 3 c.args.old c.args.new c.refused.result c.refused.new.seat
-      c.in-Other.ensures.tried.0.none (let one = c.in-Other.ensures.tried.2 in omega arith) (omega arith) (omega arith) c.refused.ensures.answered;
-}
+returns-in-Other c =
+    let s = ends_other {old = c.args.old} {new = c.args.new} (begins c.requires.ready c.requires.there c.requires.left c.law.ensures) c.in-Other.ensures.tried c.refuse.ensures.seat c.refuse.ensures.law in
+    record { ready = s.1; swapped = s.0 }

@@ -1,0 +1,16 @@
+use Rattle.std.proofs.Common.{rules}
+use Rattle.big_atomic.proofs.Preparing.{is_prepared, may_announce, taken_held}
+use Rattle.big_atomic.proofs.changing.prepare_node.Goals as goal
+
+pub fill-requires-clause-held : goal.fill-requires-clause-held
+fill-requires-clause-held c = taken_held c.take-node.ensures.taken
+
+pub announce-requires-clause-may : goal.announce-requires-clause-may
+announce-requires-clause-may c = may_announce c.take-node.ensures.taken c.fill.ensures.filled
+
+pub returns : goal.returns
+returns c = record {
+  prepared = is_prepared
+      (record { takes = c.take-node.ensures.taken; fills = c.fill.ensures.filled; announces = c.announce.ensures.announced })
+      c.args.rec c.words_of.ensures (search rules) c.law.ensures c.law-2.ensures;
+}

@@ -1,0 +1,25 @@
+use Rattle.std.proofs.Common.{None}
+use Rattle.big_atomic.proofs.Answered.{goes_of}
+use Rattle.big_atomic.proofs.Claimed.{seen_first, seen_further}
+use Rattle.big_atomic.proofs.Goings.{free_stays}
+use Rattle.hazard_claims.specs.Claiming.{claim_number}
+use Rattle.big_atomic.proofs.claiming.claim_node.Goals as goal
+
+pub turns-init : goal.turns-init
+turns-init c = record { sees = seen_first (claim_number c.args.claim) c.args.reg c.look_first-seen.result c.args.seat.now c.look_first-seen.new.seat c.look_first-seen.ensures.looked }
+
+pub claim_once-requires-clause-ours : goal.claim_once-requires-clause-ours
+claim_once-requires-clause-ours c = goes_of (c.turns.invariant.sees.goes None) c.requires.ours
+
+pub claim_once-requires-clause-free : goal.claim_once-requires-clause-free
+claim_once-requires-clause-free c is = let s = c.turns.invariant.sees in free_stays c.law.ensures.sound (s.goes None) (c.requires.free is)
+
+pub returns-in-Same : goal.returns-in-Same
+returns-in-Same c = let t = c.in-Same.ensures.turned in record {
+  claimed = (seen_further c.turns.invariant.sees t.0, t.2);
+}
+
+pub turns-preserved : goal.turns-preserved
+turns-preserved c = record {
+  sees = seen_further c.turns.invariant.sees c.in-Other.ensures.turned.0;
+}

@@ -1,0 +1,12 @@
+use Rattle.std.proofs.Common.{sym, subst}
+use Rattle.big_atomic.proofs.Answered.{may_ended}
+use Rattle.big_atomic.specs.Calling.{refused_at}
+use Rattle.seat_history.specs.declared.call.Call.TheVariants.{Swap}
+use Rattle.seat_history.specs.declared.reply.Reply.TheVariants.{No}
+use Rattle.step_rules.specs.SeatData.{SeatData}
+use Rattle.step_rules.specs.Steps.{MayAnswer}
+use Rattle.big_atomic.proofs.swaps.refuse.Goals as goal
+
+pub stand-requires-clause-may : goal.stand-requires-clause-may
+stand-requires-clause-may g c = subst (λ (z : SeatData). MayAnswer (refused_at g.P.Place.place (Swap c.args.reg c.args.old c.args.new) z.view) (Swap c.args.reg c.args.old c.args.new) No z) (sym c.release.ensures.released)
+    (may_ended (refused_at g.P.Place.place (Swap c.args.reg c.args.old c.args.new) c.args.seat.now.view) (Swap c.args.reg c.args.old c.args.new) No c.args.seat.now c.law.ensures.sound c.requires.may)
