@@ -18,7 +18,8 @@ pub line_spelled : (line caller : List ℕ) (words : List (List ℕ)) (entry : E
 line_spelled line caller words entry e s = subst (λ ws. SpellsWords ws entry) e s
 
 -- the cause of a call's words is the line's
-pub call_cause : (cause : LineCause) (callers n : ℕ) (object : Object) (line caller : List ℕ) (words : List (List ℕ)) → words_of line ≡ caller ∷ words → AreCallWords (words_of line) → IsNumber caller n
+pub call_cause : (cause : LineCause) (callers n : ℕ) (object : Object) (line caller : List ℕ) (words : List (List ℕ))
+    → words_of line ≡ caller ∷ words → AreCallWords (words_of line) → IsNumber caller n
     → ReadsCall words (Err cause) → HasCause callers object line cause
 call_cause Words callers n object line caller words e w is h = absurd h
 call_cause Number callers n object line caller words e w is h = (w, λ entry s. h entry.call (line_spelled line caller words entry e s).1)

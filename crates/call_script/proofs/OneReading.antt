@@ -104,7 +104,8 @@ dull : Entry
 dull = record { caller = 0; call = Look }
 
 -- no line before a script's end is bad
-not_bad : (first : List ℕ) (rest : List (List ℕ)) (n i : ℕ) (es : List Entry) (line : ℕ) (cause : LineCause) (b : IsBadCall first rest line cause) → IsScript first (take i rest) n es → i ≤ length rest → length b.entries < i → ⊥
+not_bad : (first : List ℕ) (rest : List (List ℕ)) (n i : ℕ) (es : List Entry) (line : ℕ) (cause : LineCause) (b : IsBadCall first rest line cause)
+    → IsScript first (take i rest) n es → i ≤ length rest → length b.entries < i → ⊥
 not_bad first rest n i es line cause b h within before =
     let k = length b.entries in
     let object = object_from blank_object (take k es) in

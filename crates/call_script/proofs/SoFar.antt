@@ -22,7 +22,8 @@ pub record IsReadSoFar (callers : ℕ) (all : List (List ℕ)) (entries : List E
   pub may : MayRun callers blank_object entries
   pub few : length entries ≤ 65536
 
-pub MayRun-push : (callers : ℕ) (object : Object) (entries : List Entry) (entry : Entry) → MayRun callers object entries → IsInRange callers entry → MayCall ((object_from object entries).held entry.caller) entry.call → MayRun callers object (entries ++ entry ∷ [])
+pub MayRun-push : (callers : ℕ) (object : Object) (entries : List Entry) (entry : Entry) → MayRun callers object entries → IsInRange callers entry
+    → MayCall ((object_from object entries).held entry.caller) entry.call → MayRun callers object (entries ++ entry ∷ [])
 MayRun-push callers object [] entry may range call = (range, call, tt)
 MayRun-push callers object (first ∷ entries) entry may range call = (may.0, may.1, MayRun-push callers (object_after object first) entries entry may.2 range call)
 

@@ -24,7 +24,8 @@ pub store_words : (a b : List ℕ) (call : Call) → SpellsCall (codes "store" �
 store_words a b (Store reg new) h = (reg, new, refl, h.1.0, h.1.1.0)
 store_words a b call h = absurd (apart (codes "store") (name_of call) refl h.0)
 
-pub swap_words : (a b d : List ℕ) (call : Call) → SpellsCall (codes "swap" ∷ a ∷ b ∷ d ∷ []) call → (reg : ℕ) × (old : List ℕ) × (new : List ℕ) × (call ≡ Swap reg old new) × IsNumber a reg × IsTuple WIDTH b old × IsTuple WIDTH d new
+pub swap_words : (a b d : List ℕ) (call : Call) → SpellsCall (codes "swap" ∷ a ∷ b ∷ d ∷ []) call → (reg : ℕ) × (old : List ℕ)
+    × (new : List ℕ) × (call ≡ Swap reg old new) × IsNumber a reg × IsTuple WIDTH b old × IsTuple WIDTH d new
 swap_words a b d (Swap reg old new) h = (reg, old, new, refl, h.1.0, h.1.1.0, h.1.1.1.0)
 swap_words a b d call h = absurd (apart (codes "swap") (name_of call) refl h.0)
 
@@ -40,7 +41,8 @@ pub insert_words : (a b : List ℕ) (call : Call) → SpellsCall (codes "insert"
 insert_words a b (Insert key val) h = (key, val, refl, h.1.0, h.1.1.0)
 insert_words a b call h = absurd (apart (codes "insert") (name_of call) refl h.0)
 
-pub replace_words : (a b d : List ℕ) (call : Call) → SpellsCall (codes "replace" ∷ a ∷ b ∷ d ∷ []) call → (key : KeyWords) × (old : List ℕ) × (new : List ℕ) × (call ≡ Replace key old new) × IsKey a key × IsTuple VALUE_WIDTH b old × IsTuple VALUE_WIDTH d new
+pub replace_words : (a b d : List ℕ) (call : Call) → SpellsCall (codes "replace" ∷ a ∷ b ∷ d ∷ []) call → (key : KeyWords) × (old : List ℕ)
+    × (new : List ℕ) × (call ≡ Replace key old new) × IsKey a key × IsTuple VALUE_WIDTH b old × IsTuple VALUE_WIDTH d new
 replace_words a b d (Replace key old new) h = (key, old, new, refl, h.1.0, h.1.1.0, h.1.1.1.0)
 replace_words a b d call h = absurd (apart (codes "replace") (name_of call) refl h.0)
 

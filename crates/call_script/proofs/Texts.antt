@@ -46,7 +46,8 @@ trimmed_at (word ∷ words) (suc last) within some zeros =
     ap (λ ws. word ∷ ws) (trimmed_at words last (omega arith) some (λ i above lt. zeros (suc i) (omega arith) (omega arith)))
     ∙ sym (ap (λ b. cond b [] (word ∷ trimmed words)) (not_blank (word ∷ words) (suc last) within some))
 
-pub registers_step : (rs : List (List ℕ)) (i : ℕ) (d front text next : List ℕ) → i < length rs → text ≡ front ++ flat_map register_line (enumerate_from 0 (take i rs)) → next ≡ text ++ register_line (i, get_or rs i d)
+pub registers_step : (rs : List (List ℕ)) (i : ℕ) (d front text next : List ℕ) → i < length rs
+    → text ≡ front ++ flat_map register_line (enumerate_from 0 (take i rs)) → next ≡ text ++ register_line (i, get_or rs i d)
     → next ≡ front ++ flat_map register_line (enumerate_from 0 (take (i + 1) rs))
 registers_step rs i d front text next lt so_far more =
     more ∙ ap (λ t. t ++ register_line (i, get_or rs i d)) so_far ∙ append_assoc front (flat_map register_line (enumerate_from 0 (take i rs))) (register_line (i, get_or rs i d))

@@ -36,13 +36,15 @@ in_number after most count limit last = record {
   are = λ n le. omega (arith, feeds_after (decimal n) (after ∷ []), feeds_none (decimal n) (none_in_decimal n line_feed (omega arith) (omega arith)));
 }
 
-in_pair : {X Y : Type 0} {front : X → List ℕ} {back : Y → List ℕ} {P : X → Type 0} {Q : Y → Type 0} {a b : ℕ} → HasFeeds front P a → HasFeeds back Q b → HasFeeds (spelled_after front back) (BothIn P Q) (a + b)
+in_pair : {X Y : Type 0} {front : X → List ℕ} {back : Y → List ℕ} {P : X → Type 0} {Q : Y → Type 0} {a b : ℕ}
+    → HasFeeds front P a → HasFeeds back Q b → HasFeeds (spelled_after front back) (BothIn P Q) (a + b)
 unfolding spelled_after
 in_pair {front = front} {back = back} first second = record {
   are = λ pair in_range. omega (arith, feeds_after (front pair.0) (back pair.1), first.are pair.0 in_range.first, second.are pair.1 in_range.second);
 }
 
-by_parts : {X Y : Type 0} {spelling : X → List ℕ} {P : X → Type 0} {parts : X → Y} {fields : Y → List ℕ} {Q : Y → Type 0} {count : ℕ} → IsSpelledBy spelling P parts fields Q → HasFeeds fields Q count → HasFeeds spelling P count
+by_parts : {X Y : Type 0} {spelling : X → List ℕ} {P : X → Type 0} {parts : X → Y} {fields : Y → List ℕ} {Q : Y → Type 0} {count : ℕ}
+    → IsSpelledBy spelling P parts fields Q → HasFeeds fields Q count → HasFeeds spelling P count
 by_parts {parts = parts} by h = record {
   are = λ x in_range. ap feeds (by.spelled x) ∙ h.are (parts x) (by.in_range x in_range);
 }

@@ -1,7 +1,8 @@
 -- What bytes are a report of, and where they cease to be one.
 use Rattle.std.specs.List.{flat_map, count_by}
 use Rattle.std.specs.Prelude.{◌⊎◌}
-use Rattle.std.proofs.Common.{◌≡◌, ℕ, ◌<◌, ◌≤◌, ◌+◌, ◌/◌, ◌^◌, List, [], ◌∷◌, ◌++◌, Option, Some, None, All, length, drop, get_or, decimal, append_assoc, ap, refl, sym, subst, ◌∙◌, arith, inl, inr, eqb}
+use Rattle.std.proofs.Common.{◌≡◌, ℕ, ◌<◌, ◌≤◌, ◌+◌, ◌/◌, ◌^◌, List, [], ◌∷◌, ◌++◌, Option, Some, None, All, length, drop, get_or, decimal, append_assoc, ap}
+use Rattle.std.proofs.Common.{refl, sym, subst, ◌∙◌, arith, inl, inr, eqb}
 use Rattle.std.proofs.Math.Seq.{drop-append_seam}
 use Rattle.std.proofs.lemmas.List.{append_cancel_left, append-nil, length-append, nil_from_length}
 use Rattle.std.proofs.lemmas.List.Elements.{All-head, All-tail, All-drop}
@@ -31,7 +32,8 @@ unfolding report_text last_line
 report_is flows totals = refl
 
 -- good lines and a last line are a report
-pub report_from_last : (bytes : List ℕ) (flows : Flows) (rest : List ℕ) (totals : Totals) → HasFlowLines bytes flows rest → EndsInTotals (sums_of flows) rest (Some totals) → IsReport bytes flows totals
+pub report_from_last : (bytes : List ℕ) (flows : Flows) (rest : List ℕ) (totals : Totals) → HasFlowLines bytes flows rest
+    → EndsInTotals (sums_of flows) rest (Some totals) → IsReport bytes flows totals
 report_from_last bytes flows rest totals front last = record {
   text = front.lines ∙ ap (λ (z : List ℕ). flat_map flow_line flows ++ z) last.1 ∙ sym (report_is flows totals);
   rising = front.rising;
@@ -60,7 +62,8 @@ pub same_bytes : (flows others : Flows) (rest after : List ℕ) → All IsFlowIn
 same_bytes [] others rest after in_range others_in is = inl (others, refl, is)
 same_bytes (flow ∷ flows) [] rest after in_range others_in is = inr (flow ∷ flows, refl, sym is)
 same_bytes (flow ∷ flows) (other ∷ others) rest after in_range others_in is =
-    let same = flows_free.same flow other (flat_map flow_line flows ++ rest) (flat_map flow_line others ++ after) (All-head IsFlowInRange flow flows in_range) (All-head IsFlowInRange other others others_in)
+    let same = flows_free.same flow other (flat_map flow_line flows ++ rest) (flat_map flow_line others ++ after)
+        (All-head IsFlowInRange flow flows in_range) (All-head IsFlowInRange other others others_in)
     (sym (append_assoc (flow_line flow) (flat_map flow_line flows) rest) ∙ is ∙ append_assoc (flow_line other) (flat_map flow_line others) after) in
     elim (same_bytes flows others rest after (All-tail IsFlowInRange flow flows in_range) (All-tail IsFlowInRange other others others_in) same.1) [
       | inl found ↦ inl (found.0, (λ i. sym same.0 i ∷ found.1 i), found.2)
@@ -148,7 +151,8 @@ report_only bytes flows totals report = no_more_lines bytes flows (sums_of flows
 -- bytes are one report at most
 pub same_report : (bytes : List ℕ) (flows others : Flows) (totals found : Totals) → IsReport bytes flows totals → IsReport bytes others found → (flows ≡ others) × (totals ≡ found)
 same_report bytes flows others totals found first second =
-    let flows_is = same_only bytes flows others (sums_of flows ++ totals_text totals) (sums_of others ++ totals_text found) (report_only bytes flows totals first) (report_only bytes others found second) in
+    let flows_is = same_only bytes flows others (sums_of flows ++ totals_text totals) (sums_of others ++ totals_text found)
+        (report_only bytes flows totals first) (report_only bytes others found second) in
     let text : report_text flows totals ≡ report_text flows found = sym first.text ∙ second.text ∙ ap (λ (z : Flows). report_text z found) (sym flows_is) in
     let last = append_cancel_left (flat_map flow_line flows) (sums_of flows ++ totals_text totals) (sums_of flows ++ totals_text found) (sym (report_is flows totals) ∙ text ∙ report_is flows found) in
     let ends = append_cancel_left (sums_of flows) (totals_text totals) (totals_text found) last in

@@ -28,7 +28,8 @@ last_key flows last i end is =
     get_or-map (λ (e : Key × Value). e.0) flows i last last.0 (omega arith) ∙ ap (λ (e : Key × Value). e.0) (get_or_from_slice_get flows i last last here)
 
 -- one more key, which is above the last
-push_key : (keys : List Key) (last key : Key) → IsStrictlySortedBy key_cmp keys → ((i : ℕ) → i + 1 ≡ length keys → key_cmp (get_or keys i last) key ≡ Less) → IsStrictlySortedBy key_cmp (keys ++ key ∷ [])
+push_key : (keys : List Key) (last key : Key) → IsStrictlySortedBy key_cmp keys
+    → ((i : ℕ) → i + 1 ≡ length keys → key_cmp (get_or keys i last) key ≡ Less) → IsStrictlySortedBy key_cmp (keys ++ key ∷ [])
 push_key keys last key rising below =
     sorted_from_all_adjacent key_cmp_total (keys ++ key ∷ []) last (λ i within.
     let inside : i + 1 < length keys + 1 = omega (arith, length_push keys key) in

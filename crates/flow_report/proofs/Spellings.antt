@@ -119,7 +119,8 @@ fixed_free text = record { same = λ x y r s x_in y_in is. (refl, append_cancel_
 pub none_from_strip : (text prefix : List ℕ) → pointwise eqb (take (length prefix) text) prefix ≡ false → BeginsWithNone (fixed prefix) Always text
 none_from_strip text prefix h = record { none = λ x rest in_range is. strip_prefix_is Decides-eqb text prefix None h rest is }
 
-pub begins_from_strip : (text prefix : List ℕ) (rest : Bor (List ℕ)) → (pointwise eqb (take (length prefix) text) prefix ≡ true) × (rest.now ≡ drop (length prefix) text) × (length rest.now + length prefix ≡ length text)
+pub begins_from_strip : (text prefix : List ℕ) (rest : Bor (List ℕ)) → (pointwise eqb (take (length prefix) text) prefix ≡ true)
+    × (rest.now ≡ drop (length prefix) text) × (length rest.now + length prefix ≡ length text)
     → BeginsWith (fixed prefix) Always text tt rest.now
 begins_from_strip text prefix rest h = record { in_range = tt; spelled = strip_prefix_is Decides-eqb text prefix (Some rest) h }
 

@@ -1,5 +1,7 @@
 -- A scan as far as its loop has come, and at its end.
-use Rattle.std.proofs.Common.{◌-◌, nat_lt, ◌≡◌, ◌≢◌, ℕ, ◌+◌, ◌*◌, ◌/◌, ◌%◌, ◌<◌, ◌≤◌, suc, zero, Bool, true, false, not, ◌&&◌, ◌||◌, List, [], ◌∷◌, ◌++◌, length, map, filter, get_or, set, cond, eqb, eq-eqb, ne_eqb, refl, sym, ap, ◌∙◌, subst, arith, add-one, ◌⊎◌, inl, inr, ⊎_elim, slice_index_or}
+use Rattle.std.proofs.Common.{◌-◌, nat_lt, ◌≡◌, ◌≢◌, ℕ, ◌+◌, ◌*◌, ◌/◌, ◌%◌, ◌<◌, ◌≤◌, suc, zero, Bool, true, false, not, ◌&&◌, ◌||◌, List, [], ◌∷◌, ◌++◌}
+use Rattle.std.proofs.Common.{length, map, filter, get_or, set, cond, eqb, eq-eqb, ne_eqb, refl, sym, ap, ◌∙◌, subst, arith, add-one, ◌⊎◌, inl, inr, ⊎_elim}
+use Rattle.std.proofs.Common.{slice_index_or}
 use Rattle.std.proofs.lemmas.Bool.Decides.{nat_tests}
 use Rattle.std.proofs.lemmas.Bool.{and_parts, cases_eq, eqb-true, or_left, or_right}
 use Rattle.std.proofs.lemmas.List.{append-nil, append_assoc, get_or-set_other, get_or-set_same, get_or_append_left, length-map, map-append}
@@ -279,7 +281,8 @@ own_stands n c v is =
     ap (λ (z : Bool × ℕ). cond z.0 false (claim_of z.1 v).stands) (λ i. (high i, rest i))
 
 -- a whole scan
-module _ (old start new : SeatData) (loads : List Counted) (sound : Sound old.view) (is_ready : IsReady old start) (loaded : Loads (CLAIMS * old.view.plan.seats) loads start.view) (ended : Ended loads start new) where
+module _ (old start new : SeatData) (loads : List Counted) (sound : Sound old.view) (is_ready : IsReady old start)
+    (loaded : Loads (CLAIMS * old.view.plan.seats) loads start.view) (ended : Ended loads start new) where
   abbrev ready_seat : SeatData
   ready_seat = cleared old is_ready.clear is_ready.claims is_ready.fresh
 
@@ -325,10 +328,12 @@ module _ (old start new : SeatData) (loads : List Counted) (sound : Sound old.vi
         retired = ending.retired;
         free = ending.free;
         few = ending.few;
-        none = λ all quiet. let zero = (and_parts (is_empty old.holding) (all_zero (claim_words old.view)) (and_parts (not (holds_record old.view)) (is_empty old.holding && all_zero (claim_words old.view)) quiet).1).1 in
+        none = λ all quiet. let zero = (and_parts (is_empty old.holding) (all_zero (claim_words old.view))
+            (and_parts (not (holds_record old.view)) (is_empty old.holding && all_zero (claim_words old.view)) quiet).1).1 in
             ending.retired ∙ filter_none (λ n. names n loads) old.view.retired (λ n. names_none words n (λ i below. found_none all zero i (omega arith)));
         own_words = λ c below. (found_words.own (claim_at (number old.view) c) (omega arith)).least c refl below ∙ ap (λ l. (slice_index_or l c (silent 0)).word) (sym claims);
-        own_stood = λ c below. found_words.stood (claim_at (number old.view) c) (omega arith) ∙ (own_stands (number old.view) c ready_seat.view refl ∙ ap (λ l. (slice_index_or l c (silent 0)).stands) (sym claims));
+        own_stood = λ c below. found_words.stood (claim_at (number old.view) c) (omega arith)
+            ∙ (own_stands (number old.view) c ready_seat.view refl ∙ ap (λ l. (slice_index_or l c (silent 0)).stands) (sym claims));
         same = ending.same ∙ ap (λ (z : List Counted × List Claim). stepped (record old.view {
           own = new.view.own;
           retired = new.view.retired;

@@ -58,7 +58,8 @@ exchanged true false x y z apart = refl
 exchanged false b x y z apart = refl
 
 -- before pairs that are all above
-set_in_front : (n : ℕ) (new : Option (KeyWords × List ℕ)) (pairs : Pairs) → IsAt n new → Rise pairs → AllByRecursion IsPairInRange pairs → AreAbove n pairs → IsSet n (value_of new) pairs (front new pairs)
+set_in_front : (n : ℕ) (new : Option (KeyWords × List ℕ)) (pairs : Pairs) → IsAt n new → Rise pairs
+    → AllByRecursion IsPairInRange pairs → AreAbove n pairs → IsSet n (value_of new) pairs (front new pairs)
 set_in_front n None pairs at rise in_range above = record {
   rise = rise;
   in_range = in_range;
@@ -151,7 +152,8 @@ have_after values Look in_range old = old
 have_after values Release in_range old = old
 have_after values (Find key) in_range old = old
 
-have_from : (object : Object) (entries : List Entry) → AllByRecursion (λ (entry : Entry). AddsInRange entry.call) entries → HavePairs object.contents.values → HavePairs (object_from object entries).contents.values
+have_from : (object : Object) (entries : List Entry) → AllByRecursion (λ (entry : Entry). AddsInRange entry.call) entries
+    → HavePairs object.contents.values → HavePairs (object_from object entries).contents.values
 have_from object [] in_range old = old
 have_from object (entry ∷ entries) in_range old = have_from (object_after object entry) entries in_range.1 (have_after object.contents.values entry.call in_range.0 old)
 

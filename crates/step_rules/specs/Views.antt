@@ -1,5 +1,6 @@
 -- What each step makes of its seat's view.
-use Rattle.std.specs.Prelude.{ℕ, ◌+◌, ◌*◌, ◌-◌, ◌/◌, ◌==◌, Bool, true, false, not, ◌&&◌, suc, zero, List, [], ◌∷◌, ◌++◌, Some, None, length, map, filter, take, drop, slice_index, slice_index_or, slice_set, replicate, nat_lt, if◌then◌else◌}
+use Rattle.std.specs.Prelude.{ℕ, ◌+◌, ◌*◌, ◌-◌, ◌/◌, ◌==◌, Bool, true, false, not, ◌&&◌, suc, zero, List, [], ◌∷◌, ◌++◌, Some, None, length, map, filter, take}
+use Rattle.std.specs.Prelude.{drop, slice_index, slice_index_or, slice_set, replicate, nat_lt, if◌then◌else◌}
 use Rattle.seat_history.specs.History.{state_at}
 use Rattle.seat_history.specs.Step.{reply_to}
 use Rattle.seat_history.specs.declared.call.Call.{Call}

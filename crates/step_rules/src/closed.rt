@@ -43,7 +43,9 @@ impl Model for Closed {
 
     ghost view = { λ c. record { plan = c.plan; history = c.last.view.seen; stands = c.last.view.stands; free = c.free.items; retired = c.retired.items } };
 
-    ghost invariant = { λ c. IsFull c.words.words × (slots_len c.words.slots ≡ 0) × EndsWith c.plan (slots_items c.words.words) c.last.view.seen × (length c.free.items + live_nodes c.plan c.last.view.seen + length c.retired.items ≡ nodes c.plan) × (nodes c.plan ≤ MOST_NODES) × IsPlan c.plan × (c.cells_start ≡ cells_at c.plan) × (c.nodes_start ≡ nodes_at c.plan) × IsHistory c.plan c.last.view.seen };
+    ghost invariant = { λ c. IsFull c.words.words × (slots_len c.words.slots ≡ 0) × EndsWith c.plan (slots_items c.words.words) c.last.view.seen
+        × (length c.free.items + live_nodes c.plan c.last.view.seen + length c.retired.items ≡ nodes c.plan) × (nodes c.plan ≤ MOST_NODES)
+        × IsPlan c.plan × (c.cells_start ≡ cells_at c.plan) × (c.nodes_start ≡ nodes_at c.plan) × IsHistory c.plan c.last.view.seen };
 }
 
 impl Closed {

@@ -152,7 +152,9 @@ fn first_seat(
     requires sound { Sound (starting plan.now) }
     requires free { free.items ≡ count_up (cells plan.now) (plan.now.seats * plan.now.share) }
     requires none { (holding.items ≡ []) × (retired.items ≡ []) × (scan_found.items ≡ []) }
-    requires room { (plan.now.seats * plan.now.share + plan.now.removes * plan.now.seats ≤ vec_capacity free) × (plan.now.seats * plan.now.share + plan.now.removes * plan.now.seats ≤ vec_capacity holding) × (plan.now.seats * plan.now.share + plan.now.removes * plan.now.seats ≤ vec_capacity retired) × (CLAIMS * plan.now.seats ≤ vec_capacity scan_found) }
+    requires room { (plan.now.seats * plan.now.share + plan.now.removes * plan.now.seats ≤ vec_capacity free)
+        × (plan.now.seats * plan.now.share + plan.now.removes * plan.now.seats ≤ vec_capacity holding)
+        × (plan.now.seats * plan.now.share + plan.now.removes * plan.now.seats ≤ vec_capacity retired) × (CLAIMS * plan.now.seats ≤ vec_capacity scan_found) }
     ensures seat { result ≡ record { object = inner.table_id; view = starting plan.now; free = free.items; holding = []; first = true; fresh = true } }
 {
     Seat {

@@ -53,7 +53,9 @@ impl Model for Seat {
 
     ghost view = { λ s. record { object = s.inner.table_id; view = s.inner.me.0; free = s.free.items; holding = s.holding.items; first = s.first; fresh = s.fresh } };
 
-    ghost invariant = { λ s. IsTied s.inner.me s.numbers s.first s.fresh s.holds_record s.free.items s.holding.items s.claims (vec_capacity s.free) (vec_capacity s.holding) (vec_capacity s.retired) × (s.least ≡ number s.inner.me.0) × (s.changes ≡ s.inner.me.0.changes) × (s.removes ≡ s.inner.me.0.removes) × (s.retired.items ≡ s.inner.me.0.retired) × IsScan s.inner.me.0 s.scan_next s.scan_old s.scan_found.items (vec_capacity s.scan_found) };
+    ghost invariant = { λ s. IsTied s.inner.me s.numbers s.first s.fresh s.holds_record s.free.items s.holding.items s.claims (vec_capacity s.free) (vec_capacity s.holding)
+        (vec_capacity s.retired) × (s.least ≡ number s.inner.me.0) × (s.changes ≡ s.inner.me.0.changes) × (s.removes ≡ s.inner.me.0.removes)
+        × (s.retired.items ≡ s.inner.me.0.retired) × IsScan s.inner.me.0 s.scan_next s.scan_old s.scan_found.items (vec_capacity s.scan_found) };
 }
 
 impl Seat {

@@ -30,7 +30,8 @@ impl Model for Shared {
 
     ghost view = { λ s. record { object = s.table.shared.table_id; plan = s.plan } };
 
-    ghost invariant = { λ s. IsPlan s.plan × (nodes s.plan ≤ MOST_NODES) × (s.plan ≡ s.table.shared.key) × (s.table.shared.table_id.words ≡ words s.plan) × (s.cells_start ≡ cells_at s.plan) × (s.nodes_start ≡ nodes_at s.plan) × (s.table.shared.table_id.slots ≡ 0) };
+    ghost invariant = { λ s. IsPlan s.plan × (nodes s.plan ≤ MOST_NODES) × (s.plan ≡ s.table.shared.key) × (s.table.shared.table_id.words ≡ words s.plan)
+        × (s.cells_start ≡ cells_at s.plan) × (s.nodes_start ≡ nodes_at s.plan) × (s.table.shared.table_id.slots ≡ 0) };
 }
 
 impl Shared {

@@ -42,7 +42,8 @@ impl Shared {
         requires fresh { seat.old.fresh ≡ true }
         requires more { 1 < length seat.old.view.numbers }
         requires empty { (free.items ≡ []) × (holding.items ≡ []) × (retired.items ≡ []) × (scan_found.items ≡ []) }
-        requires room { (self.now.plan.share + self.now.plan.removes ≤ vec_capacity free) × (self.now.plan.share + self.now.plan.removes ≤ vec_capacity holding) × (self.now.plan.share + self.now.plan.removes ≤ vec_capacity retired) × (CLAIMS * self.now.plan.seats ≤ vec_capacity scan_found) }
+        requires room { (self.now.plan.share + self.now.plan.removes ≤ vec_capacity free) × (self.now.plan.share + self.now.plan.removes ≤ vec_capacity holding)
+            × (self.now.plan.share + self.now.plan.removes ≤ vec_capacity retired) × (CLAIMS * self.now.plan.seats ≤ vec_capacity scan_found) }
         ensures split { IsSplit seat.old seat.new result }
     {
         let mut inner = self.table.shared.split_seat::<Halves>(&mut seat.inner);

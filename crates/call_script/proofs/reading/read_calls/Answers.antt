@@ -27,7 +27,8 @@ pub returns-then-len-eq-MOST_LINES-clause-bad : goal.returns-then-len-eq-MOST_LI
 returns-then-len-eq-MOST_LINES-clause-bad c = λ first named.
     let i = c.lines.invariant in
     let entries = c.lines.calls.items in
-    let left : drop (length entries) (parts_in 10 (option_map (λ bytes. bytes.now) c.args.bytes)) ≡ parts_at 10 c.in-Some.bytes.now = i.left ∙ ap (λ rest. parts_in 10 (option_map (λ bytes. bytes.now) rest)) c.in-Some.is in
+    let left : drop (length entries) (parts_in 10 (option_map (λ bytes. bytes.now) c.args.bytes)) ≡ parts_at 10 c.in-Some.bytes.now = i.left
+        ∙ ap (λ rest. parts_in 10 (option_map (λ bytes. bytes.now) rest)) c.in-Some.is in
     let count : length entries ≡ c.len.result = omega arith in
     subst (λ n. IsOneMore first (parts_in 10 (option_map (λ bytes. bytes.now) c.args.bytes)) (n + 2)) count
     (one_more c.args.callers _ entries i.read first named c.requires c.in-Some.bytes.now left (omega arith))
@@ -69,7 +70,8 @@ lines-preserved c =
       read = subst (λ es. IsReadSoFar c.args.callers (parts_in 10 (option_map (λ bytes. bytes.now) c.args.bytes)) es) (sym longer)
           (read_more c.args.callers _ entries i.read c.cut.result.0.now _ entry left room c.in-Ok.ensures.spelled c.in-Ok.ensures.range may);
       left = ap (λ (es : List Entry). drop (length es) (parts_in 10 (option_map (λ bytes. bytes.now) c.args.bytes))) longer ∙ left_more c.args.callers _ entries i.read c.cut.result.0.now _ entry left;
-      tells = subst (λ o. TellsHolders c.note_call.new.holding o) (sym (ap (object_from blank_object) longer ∙ object_from-append blank_object entries (entry ∷ []))) (c.note_call.ensures object i.tells);
+      tells = subst (λ o. TellsHolders c.note_call.new.holding o)
+          (sym (ap (object_from blank_object) longer ∙ object_from-append blank_object entries (entry ∷ []))) (c.note_call.ensures object i.tells);
     }
 
 pub returns-clause-good : goal.returns-clause-good

@@ -7,13 +7,18 @@ pub returns-in_err-first : goal.returns-in_err-first
 returns-in_err-first c = rw c.from_residual.ensures (none_by_parts address_by_parts (none_first _ _ c.in_err-first.ensures))
 
 pub returns-in_err-second : goal.returns-in_err-second
-returns-in_err-second c = rw c.from_residual-in_err-second.ensures (none_by_parts address_by_parts (none_second (bytes_free 46 (omega arith)) c.in_ok-first.ensures (none_first _ _ c.in_err-second.ensures)))
+returns-in_err-second c = rw c.from_residual-in_err-second.ensures
+    (none_by_parts address_by_parts (none_second (bytes_free 46 (omega arith)) c.in_ok-first.ensures (none_first _ _ c.in_err-second.ensures)))
 
 pub returns-in_err-third : goal.returns-in_err-third
-returns-in_err-third c = rw c.from_residual-in_err-third.ensures (none_by_parts address_by_parts (none_second (bytes_free 46 (omega arith)) c.in_ok-first.ensures (none_second (bytes_free 46 (omega arith)) c.in_ok-second.ensures (none_first _ _ c.in_err-third.ensures))))
+returns-in_err-third c = rw c.from_residual-in_err-third.ensures
+    (none_by_parts address_by_parts (none_second (bytes_free 46 (omega arith)) c.in_ok-first.ensures
+    (none_second (bytes_free 46 (omega arith)) c.in_ok-second.ensures (none_first _ _ c.in_err-third.ensures))))
 
 pub returns-in_err-fourth : goal.returns-in_err-fourth
-returns-in_err-fourth c = rw c.from_residual-in_err-fourth.ensures (none_by_parts address_by_parts (none_second (bytes_free 46 (omega arith)) c.in_ok-first.ensures (none_second (bytes_free 46 (omega arith)) c.in_ok-second.ensures (none_second (bytes_free 46 (omega arith)) c.in_ok-third.ensures c.in_err-fourth.ensures))))
+returns-in_err-fourth c = rw c.from_residual-in_err-fourth.ensures
+    (none_by_parts address_by_parts (none_second (bytes_free 46 (omega arith)) c.in_ok-first.ensures
+    (none_second (bytes_free 46 (omega arith)) c.in_ok-second.ensures (none_second (bytes_free 46 (omega arith)) c.in_ok-third.ensures c.in_err-fourth.ensures))))
 
 pub returns : goal.returns
 returns c =

@@ -7,22 +7,34 @@ pub returns-in_err-source : goal.returns-in_err-source
 returns-in_err-source c = rw c.from_residual.ensures (none_by_parts key_by_parts (none_first _ _ c.in_err-source.ensures))
 
 pub returns-in_err-destination : goal.returns-in_err-destination
-returns-in_err-destination c = rw c.from_residual-in_err-destination.ensures (none_by_parts key_by_parts (none_second addresses_free c.in_ok-source.ensures (none_first _ _ c.in_err-destination.ensures)))
+returns-in_err-destination c = rw c.from_residual-in_err-destination.ensures
+    (none_by_parts key_by_parts (none_second addresses_free c.in_ok-source.ensures (none_first _ _ c.in_err-destination.ensures)))
 
 pub returns-in_err-source_port : goal.returns-in_err-source_port
-returns-in_err-source_port c = rw c.from_residual-in_err-source_port.ensures (none_by_parts key_by_parts (none_second addresses_free c.in_ok-source.ensures (none_second addresses_free c.in_ok-destination.ensures (none_first _ _ c.in_err-source_port.ensures))))
+returns-in_err-source_port c = rw c.from_residual-in_err-source_port.ensures
+    (none_by_parts key_by_parts (none_second addresses_free c.in_ok-source.ensures (none_second addresses_free c.in_ok-destination.ensures (none_first _ _ c.in_err-source_port.ensures))))
 
 pub returns-in_err-destination_port : goal.returns-in_err-destination_port
-returns-in_err-destination_port c = rw c.from_residual-in_err-destination_port.ensures (none_by_parts key_by_parts (none_second addresses_free c.in_ok-source.ensures (none_second addresses_free c.in_ok-destination.ensures (none_second ports_free c.in_ok-source_port.ensures (none_first _ _ c.in_err-destination_port.ensures)))))
+returns-in_err-destination_port c = rw c.from_residual-in_err-destination_port.ensures
+    (none_by_parts key_by_parts (none_second addresses_free c.in_ok-source.ensures
+    (none_second addresses_free c.in_ok-destination.ensures (none_second ports_free c.in_ok-source_port.ensures (none_first _ _ c.in_err-destination_port.ensures)))))
 
 pub returns-in_err-protocol : goal.returns-in_err-protocol
-returns-in_err-protocol c = rw c.from_residual-in_err-protocol.ensures (none_by_parts key_by_parts (none_second addresses_free c.in_ok-source.ensures (none_second addresses_free c.in_ok-destination.ensures (none_second ports_free c.in_ok-source_port.ensures (none_second ports_free c.in_ok-destination_port.ensures (none_first _ _ c.in_err-protocol.ensures))))))
+returns-in_err-protocol c = rw c.from_residual-in_err-protocol.ensures
+    (none_by_parts key_by_parts (none_second addresses_free c.in_ok-source.ensures (none_second addresses_free c.in_ok-destination.ensures
+    (none_second ports_free c.in_ok-source_port.ensures (none_second ports_free c.in_ok-destination_port.ensures (none_first _ _ c.in_err-protocol.ensures))))))
 
 pub returns-in_err-service : goal.returns-in_err-service
-returns-in_err-service c = rw c.from_residual-in_err-service.ensures (none_by_parts key_by_parts (none_second addresses_free c.in_ok-source.ensures (none_second addresses_free c.in_ok-destination.ensures (none_second ports_free c.in_ok-source_port.ensures (none_second ports_free c.in_ok-destination_port.ensures (none_second (bytes_free 32 (omega arith)) c.in_ok-protocol.ensures (none_first _ _ c.in_err-service.ensures)))))))
+returns-in_err-service c = rw c.from_residual-in_err-service.ensures
+    (none_by_parts key_by_parts (none_second addresses_free c.in_ok-source.ensures (none_second addresses_free c.in_ok-destination.ensures
+    (none_second ports_free c.in_ok-source_port.ensures (none_second ports_free c.in_ok-destination_port.ensures
+    (none_second (bytes_free 32 (omega arith)) c.in_ok-protocol.ensures (none_first _ _ c.in_err-service.ensures)))))))
 
 pub returns-in_err-input : goal.returns-in_err-input
-returns-in_err-input c = rw c.from_residual-in_err-input.ensures (none_by_parts key_by_parts (none_second addresses_free c.in_ok-source.ensures (none_second addresses_free c.in_ok-destination.ensures (none_second ports_free c.in_ok-source_port.ensures (none_second ports_free c.in_ok-destination_port.ensures (none_second (bytes_free 32 (omega arith)) c.in_ok-protocol.ensures (none_second (bytes_free 32 (omega arith)) c.in_ok-service.ensures c.in_err-input.ensures)))))))
+returns-in_err-input c = rw c.from_residual-in_err-input.ensures
+    (none_by_parts key_by_parts (none_second addresses_free c.in_ok-source.ensures (none_second addresses_free c.in_ok-destination.ensures
+    (none_second ports_free c.in_ok-source_port.ensures (none_second ports_free c.in_ok-destination_port.ensures
+    (none_second (bytes_free 32 (omega arith)) c.in_ok-protocol.ensures (none_second (bytes_free 32 (omega arith)) c.in_ok-service.ensures c.in_err-input.ensures)))))))
 
 pub returns : goal.returns
 returns c =

@@ -10,10 +10,13 @@ pub returns-in_err-octets : goal.returns-in_err-octets
 returns-in_err-octets c = rw c.from_residual-in_err-octets.ensures (none_by_parts value_by_parts (none_second counts_free c.in_ok-packets.ensures (none_first _ _ c.in_err-octets.ensures)))
 
 pub returns-in_err-first : goal.returns-in_err-first
-returns-in_err-first c = rw c.from_residual-in_err-first.ensures (none_by_parts value_by_parts (none_second counts_free c.in_ok-packets.ensures (none_second counts_free c.in_ok-octets.ensures (none_first _ _ c.in_err-first.ensures))))
+returns-in_err-first c = rw c.from_residual-in_err-first.ensures
+    (none_by_parts value_by_parts (none_second counts_free c.in_ok-packets.ensures (none_second counts_free c.in_ok-octets.ensures (none_first _ _ c.in_err-first.ensures))))
 
 pub returns-in_err-last : goal.returns-in_err-last
-returns-in_err-last c = rw c.from_residual-in_err-last.ensures (none_by_parts value_by_parts (none_second counts_free c.in_ok-packets.ensures (none_second counts_free c.in_ok-octets.ensures (none_second (times_free 32 (omega arith)) c.in_ok-first.ensures c.in_err-last.ensures))))
+returns-in_err-last c = rw c.from_residual-in_err-last.ensures
+    (none_by_parts value_by_parts (none_second counts_free c.in_ok-packets.ensures
+    (none_second counts_free c.in_ok-octets.ensures (none_second (times_free 32 (omega arith)) c.in_ok-first.ensures c.in_err-last.ensures))))
 
 pub returns : goal.returns
 returns c =

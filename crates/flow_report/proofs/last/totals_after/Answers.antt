@@ -3,7 +3,8 @@ use Rattle.std.proofs.lemmas.Bool.Decides.{nat_tests}
 use Rattle.flow_report.specs.Ranges.{AreTotalsInRange}
 use Rattle.flow_report.specs.Text.{totals_text}
 use Rattle.flow_report.proofs.LastParts.{totals_free}
-use Rattle.flow_report.proofs.Spellings.{spelled_after, both_begin, none_first, none_second, pairs_prefix_free, fixed_free, none_from_strip, begins_from_strip, whole_text, no_whole_text, no_whole_text_longer}
+use Rattle.flow_report.proofs.Spellings.{spelled_after, both_begin, none_first, none_second, pairs_prefix_free, fixed_free, none_from_strip, begins_from_strip}
+use Rattle.flow_report.proofs.Spellings.{whole_text, no_whole_text, no_whole_text_longer}
 use Rattle.flow_report.proofs.last.totals_after.Goals as goal
 
 pub returns-in_err-text : goal.returns-in_err-text
