@@ -46,7 +46,7 @@ script_order lines = record {
 -- what comes of the lines in the script's own order
 pub run_in_script_order : (lines : List Entry) (driven : Driven) → driven.replies ≡ replies_from blank_object lines
     → driven.registers ≡ registers_in (object_from blank_object lines) 16 → ArePairsOf (object_from blank_object lines).contents.values driven.pairs
-        → All IsPairInRange driven.pairs → IsRun lines driven
+    → All IsPairInRange driven.pairs → IsRun lines driven
 run_in_script_order lines driven replies registers pairs in_range =
     let count : length driven.replies ≡ length lines = ap length replies ∙ length-replies_from blank_object lines in
     let whole = all_items lines (length lines) refl in (

@@ -63,7 +63,7 @@ same_bytes [] others rest after in_range others_in is = inl (others, refl, is)
 same_bytes (flow ∷ flows) [] rest after in_range others_in is = inr (flow ∷ flows, refl, sym is)
 same_bytes (flow ∷ flows) (other ∷ others) rest after in_range others_in is =
     let same = flows_free.same flow other (flat_map flow_line flows ++ rest) (flat_map flow_line others ++ after)
-        (All-head IsFlowInRange flow flows in_range) (All-head IsFlowInRange other others others_in)
+    (All-head IsFlowInRange flow flows in_range) (All-head IsFlowInRange other others others_in)
     (sym (append_assoc (flow_line flow) (flat_map flow_line flows) rest) ∙ is ∙ append_assoc (flow_line other) (flat_map flow_line others) after) in
     elim (same_bytes flows others rest after (All-tail IsFlowInRange flow flows in_range) (All-tail IsFlowInRange other others others_in) same.1) [
       | inl found ↦ inl (found.0, (λ i. sym same.0 i ∷ found.1 i), found.2)
@@ -152,7 +152,7 @@ report_only bytes flows totals report = no_more_lines bytes flows (sums_of flows
 pub same_report : (bytes : List ℕ) (flows others : Flows) (totals found : Totals) → IsReport bytes flows totals → IsReport bytes others found → (flows ≡ others) × (totals ≡ found)
 same_report bytes flows others totals found first second =
     let flows_is = same_only bytes flows others (sums_of flows ++ totals_text totals) (sums_of others ++ totals_text found)
-        (report_only bytes flows totals first) (report_only bytes others found second) in
+    (report_only bytes flows totals first) (report_only bytes others found second) in
     let text : report_text flows totals ≡ report_text flows found = sym first.text ∙ second.text ∙ ap (λ (z : Flows). report_text z found) (sym flows_is) in
     let last = append_cancel_left (flat_map flow_line flows) (sums_of flows ++ totals_text totals) (sums_of flows ++ totals_text found) (sym (report_is flows totals) ∙ text ∙ report_is flows found) in
     let ends = append_cancel_left (sums_of flows) (totals_text totals) (totals_text found) last in

@@ -7,4 +7,4 @@ mod scans;
 
 pub use answers::Recheck;
 pub use claims::{Claim, announce, recheck, release};
-pub use scans::scan;
+pub use scans::{clear_walk, scan};

@@ -4,8 +4,8 @@ ghost use Rattle.step_rules.specs.SeatData.{IsOf};
 use crate::claims::{Claim, release};
 use step_rules::{CLAIMS, Seat, Shared, scan_load};
 
-// Clears the Walk claim's word where it isn't 0.
-fn clear_walk(shared: &Shared, seat: &mut Seat)
+/// Clears the Walk claim's word where it isn't 0.
+pub fn clear_walk(shared: &Shared, seat: &mut Seat)
     requires ours { IsOf shared.now seat.old }
     ensures cleared { ClearsWalk seat.old seat.new }
 {

@@ -68,7 +68,7 @@ changed c (Swap reg old new) h =
     let was = in_front (is_same (c.registers reg) old) (not (is_same old new)) h in
     let apart = not_true (is_same old new) (behind (is_same (c.registers reg) old) (not (is_same old new)) h) in
     other_register c (contents_after c (Swap reg old new)) reg old new
-        (ap (λ b. cond b (set_at c.registers reg new) c.registers reg) was ∙ set_at_here c.registers reg new) apart (words_from_same _ _ was)
+    (ap (λ b. cond b (set_at c.registers reg new) c.registers reg) was ∙ set_at_here c.registers reg new) apart (words_from_same _ _ was)
 changed c (Hold reg) h = absurd (false≢true h)
 changed c Look h = absurd (false≢true h)
 changed c Release h = absurd (false≢true h)

@@ -31,7 +31,7 @@ pub read_behind : (bytes resized lent zeros into behind : List ℕ) (filled end 
     → resized ≡ take end bytes ++ zeros → lent ≡ resized → take (filled + n) (take filled lent ++ (into ++ behind)) ≡ take filled bytes ++ take n into
 read_behind bytes resized lent zeros into behind filled end n inside below within longer same =
     let front : take filled lent ≡ take filled bytes = ap (take filled) (same ∙ longer) ∙ take-append-le filled
-        (take end bytes) zeros (omega (arith, length-take end bytes)) ∙ take-take filled end bytes below in
+    (take end bytes) zeros (omega (arith, length-take end bytes)) ∙ take-take filled end bytes below in
     let long : length (take filled lent) ≡ filled = ap length front ∙ length-take-le filled bytes inside in
     ap (λ (k : ℕ). take (k + n) (take filled lent ++ (into ++ behind))) (sym long)
     ∙ take-append-add (take filled lent) (into ++ behind) n

@@ -28,7 +28,7 @@ returns-then-len-eq-MOST_LINES-clause-bad c = λ first named.
     let i = c.lines.invariant in
     let entries = c.lines.calls.items in
     let left : drop (length entries) (parts_in 10 (option_map (λ bytes. bytes.now) c.args.bytes)) ≡ parts_at 10 c.in-Some.bytes.now = i.left
-        ∙ ap (λ rest. parts_in 10 (option_map (λ bytes. bytes.now) rest)) c.in-Some.is in
+    ∙ ap (λ rest. parts_in 10 (option_map (λ bytes. bytes.now) rest)) c.in-Some.is in
     let count : length entries ≡ c.len.result = omega arith in
     subst (λ n. IsOneMore first (parts_in 10 (option_map (λ bytes. bytes.now) c.args.bytes)) (n + 2)) count
     (one_more c.args.callers _ entries i.read first named c.requires c.in-Some.bytes.now left (omega arith))
