@@ -79,7 +79,7 @@ pub record MayEnd (reg look q : ℕ) (call : Call) (reply : Reply) (steps : List
   pub looked : IsLooked reg steps look before now
   pub first : IsSeat before
   pub there : IsThere now.view.plan call
-  pub on : (p : Plan) → cell_of p call ≡ reg
+  pub on : cell_of now.view.plan call ≡ reg
   pub late : look ≤ q
   pub right : IsRight now.view.plan now.view.seen now.view.stands (reading q call reply now.view)
   pub idle : before.holding ≡ []
@@ -98,7 +98,7 @@ may_answer {reg = reg} {look = look} {q = q} {call = call} {reply = reply} {step
         above = λ i s at. above_end before.view.plan before.view.numbers before.view.seen before.view.stands q call reply now.view m.first.sound.lawful (omega arith) i s
             (ap (λ (l : List Stand). get_elem? l i) (sym stands) ∙ at);
       };
-      looked = looked_cell q call now.view (subst (λ (k : ℕ). (n : ℕ) × (first_look k (drop now.view.since now.view.trail) ≡ Some n) × (n ≤ q)) (sym (m.on now.view.plan))
+      looked = looked_cell q call now.view (subst (λ (k : ℕ). (n : ℕ) × (first_look k (drop now.view.since now.view.trail) ≡ Some n) × (n ≤ q)) (sym m.on)
           (looked_before q m.first.sound m.goes m.looked m.late));
       full = λ need free e. let f = m.full need free e in (f.0, m.idle_now, f.1);
     }
@@ -254,7 +254,7 @@ answered_now {reg = reg} {look = look} {q = q} {call = call} {reply = reply} {st
           stock = m.goes.stock;
           trail = ap (λ (z : View). z.trail) view ∙ all.trail;
           look = look;
-          looked = ap (λ (k : ℕ). first_look k (steps ++ clear)) (m.on before.view.plan) ∙ looks.looked;
+          looked = ap (λ (k : ℕ). first_look k (steps ++ clear)) (ap (λ (p : Plan). cell_of p call) (sym (ap (λ (z : View). z.plan) m.goes.only)) ∙ m.on) ∙ looks.looked;
           from = m.looked.from;
           after = m.late;
           right = subst (λ (z : Plan × List Entry × List Stand). IsRight z.0 z.1 z.2 (reading q call reply now.view))

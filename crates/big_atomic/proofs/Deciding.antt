@@ -1,10 +1,11 @@
 -- What a call that may change its register knows once it has read the record there.
-use Rattle.std.proofs.Common.{◌≡◌, ◌∙◌, ℕ, ◌+◌, ◌-◌, ◌*◌, ◌/◌, ◌<◌, ◌≤◌, Bool, List, [], ◌++◌, Option, None, Some, unwrap_or, length, drop, append-nil, length-append, refl, sym, ap, subst, arith, inl, inr, ⊎_elim}
+use Rattle.std.proofs.Common.{◌≡◌, ◌∙◌, ℕ, ◌+◌, ◌-◌, ◌*◌, ◌/◌, ◌<◌, ◌≤◌, Bool, List, [], ◌++◌, Option, None, Some, unwrap_or}
+use Rattle.std.proofs.Common.{length, drop, append-nil, length-append, refl, sym, ap, subst, arith, inl, inr, ⊎_elim}
 use Rattle.std.proofs.Math.Seq.{drop-append_seam}
 use Rattle.big_atomic.proofs.Answered.{MayEnd}
 use Rattle.big_atomic.proofs.Claimed.{claim_stays, loads_length, loads_still, loads_unscanned, looks_then, read_goes, record_read, stepped_then}
 use Rattle.big_atomic.proofs.Goings.{calling_then}
-use Rattle.big_atomic.proofs.Paid.{scan_loads-append, still_exchanges, still_lost, costs_then}
+use Rattle.big_atomic.proofs.Paid.{scan_loads-append, still_exchanges, still_lost, costs_then, AreStill}
 use Rattle.big_atomic.proofs.Scanning.{scan_all, scan_few, scan_goes, scan_lost, scan_seen, scan_tried, scan_view}
 use Rattle.big_atomic.proofs.Trying.{changing_end}
 use Rattle.big_atomic.specs.Calling.{Began, Costs, Goes, HasClaim, HasOnlyLooked, HasRead, HasRoom, HasSeen, IsChanging, tried_at}
@@ -36,20 +37,23 @@ use Rattle.step_rules.specs.declared.view.View.{View}
 -- THE RECORD WAS READ
 module _ {shared : ObjectData} {reg look : ℕ} {rec : List ℕ} {steps : List Counted} {before mid now : SeatData} (word : ℕ)
     (o : HasOnlyLooked shared reg steps look before mid) (r : HasRead (word / 2) rec mid now) (sound : Sound now.view) where
-  abbrev pub read_steps : List Counted
-  read_steps = steps ++ load_steps (word / 2) 0 r.words (length mid.view.seen)
+  abbrev loads : List Counted
+  loads = load_steps (word / 2) 0 r.words (length mid.view.seen)
 
-  read_view : now.view ≡ record mid.view { trail = mid.view.trail ++ load_steps (word / 2) 0 r.words (length mid.view.seen) }
+  loads_quiet : AreStill loads
+  loads_quiet = loads_still (word / 2) 0 (length mid.view.seen) r.words
+
+  abbrev pub read_steps : List Counted
+  read_steps = steps ++ loads
+
+  read_view : now.view ≡ record mid.view { trail = mid.view.trail ++ loads }
   read_view = ap (λ (z : SeatData). z.view) r.read.same
 
   pub only_read : HasOnlyLooked shared reg read_steps look before now
   only_read = record {
     calling = calling_then o.calling (read_goes reg (word / 2) r.words mid now r.read sound) (ap (λ (z : View). claim_of HOLD z) read_view);
     began = o.began;
-    looks = looks_then steps (load_steps (word / 2) 0 r.words (length mid.view.seen)) o.looks (record {
-      none_exchanged = still_exchanges (load_steps (word / 2) 0 r.words (length mid.view.seen)) (loads_still (word / 2) 0 (length mid.view.seen) r.words);
-      none_scanned = loads_unscanned (word / 2) 0 (length mid.view.seen) r.words;
-    });
+    looks = looks_then steps loads o.looks (record { none_exchanged = still_exchanges loads loads_quiet; none_scanned = loads_unscanned (word / 2) 0 (length mid.view.seen) r.words });
     same = stepped_then before mid now o.same (r.read.same ∙ ap (λ (z : View). stepped z mid) (sym read_view));
     retired = ap (λ (z : View). z.retired) read_view ∙ o.retired;
     walk = ap (λ (z : View). (claim_of WALK z).word) read_view ∙ o.walk;
@@ -59,7 +63,8 @@ module _ {shared : ObjectData} {reg look : ℕ} {rec : List ℕ} {steps : List C
   -- it is the register's at the end of what is seen
   pub read_there : HasClaim BACK reg word mid.view → register_at now.view (length now.view.seen) reg ≡ rec
   read_there h = ap (λ (z : View). register_at z (length z.seen) reg) read_view ∙ (ap (λ (n : ℕ). register_at mid.view n reg) (sym h.now_at)
-      ∙ record_read BACK reg (word / 2) rec mid now (inl refl) (subst (λ (p : Plan). reg < p.registers) (sym (ap (λ (z : View). z.plan) o.calling.goes.only ∙ o.began.ready.ours.plan)) o.began.there) o.calling.goes.sound h.stands h.cell r)
+      ∙ record_read BACK reg (word / 2) rec mid now (inl refl)
+      (subst (λ (p : Plan). reg < p.registers) (sym (ap (λ (z : View). z.plan) o.calling.goes.only ∙ o.began.ready.ours.plan)) o.began.there) o.calling.goes.sound h.stands h.cell r)
 
   pub read_costs : On (claim_of BACK mid.view) (word / 2) → Costs 0 0 3 steps → Costs 0 0 (WIDTH + 4) read_steps
   read_costs on costs =
@@ -67,9 +72,7 @@ module _ {shared : ObjectData} {reg look : ℕ} {rec : List ℕ} {steps : List C
       let at = at_there mid.view.claims BACK (silent 0) (omega arith) in
       let claimed = r.read.claimed BACK (claim_of BACK mid.view) at on in
       let wide : length r.words ≡ NODE_WIDTH = ap length claimed ∙ (o.calling.goes.sound.claims.there BACK (word / 2) (claim_of BACK mid.view) at on).1 in
-      let loads = load_steps (word / 2) 0 r.words (length mid.view.seen) in
-      let still = loads_still (word / 2) 0 (length mid.view.seen) r.words in
-      costs_then loads costs (still_lost loads still) (still_exchanges loads still) (omega (arith, loads_length (word / 2) 0 (length mid.view.seen) r.words))
+      costs_then loads costs (still_lost loads loads_quiet) (still_exchanges loads loads_quiet) (omega (arith, loads_length (word / 2) 0 (length mid.view.seen) r.words))
 
 -- THE CALL GOES ON
 pub changing_of : {shared : ObjectData} {reg look : ℕ} {steps : List Counted} {before now : SeatData} → HasOnlyLooked shared reg steps look before now → IsChanging shared reg steps look before now

@@ -1,10 +1,10 @@
 -- An exchange of a register's backup: won, or lost, or tried once more where only the mark was cleared.
-use Rattle.std.proofs.Common.{◌≡◌, ◌≢◌, ◌∙◌, ℕ, ◌/◌, ◌≤◌, Bool, true, false, not, cond, eq-eqb, List, [], ◌∷◌, ◌++◌, Some, length, drop, refl, sym, ap, subst, arith, inl}
+use Rattle.std.proofs.Common.{◌≡◌, ◌≢◌, ◌∙◌, ℕ, ◌/◌, ◌≤◌, Bool, not, cond, eq-eqb, List, [], ◌∷◌, ◌++◌, Some, length, drop, refl, sym, ap, subst, arith, inl}
 use Rattle.big_atomic.proofs.Claimed.{none_later}
-use Rattle.big_atomic.proofs.Goings.{found_at_look, goes_look, goes_lost, goes_none, goes_then, looks_at, moved_since, seen_on}
+use Rattle.big_atomic.proofs.Goings.{found_at_look, goes_look, goes_lost, goes_none, goes_then, looks_at, moved_since, seen_on, lost_most}
 use Rattle.big_atomic.proofs.Paid.{lost-append}
 use Rattle.big_atomic.specs.Calling.{Goes, HasFound, HasLost, HasWon}
-use Rattle.big_atomic.specs.Turns.{is_lost, lost_steps}
+use Rattle.big_atomic.specs.Turns.{lost_steps}
 use Rattle.seat_history.specs.declared.call.Call.{Call}
 use Rattle.step_rules.proofs.Trails.{longer_seen}
 use Rattle.step_rules.specs.Claims.{BACK, On}
@@ -78,11 +78,7 @@ module _ {reg word node x : ℕ} {u w : SeatData} (sees : Sees (BackupExchange r
   near_kept near = ap (λ (b : Bool). length (cond (not b) (tried ∷ []) [])) (eq-eqb (x / 2) (word / 2) near)
 
   pub far_lost : lost_steps (tried ∷ []) ≤ 1
-  far_lost = go (is_lost tried)
-    where
-      go : (b : Bool) → length (cond b (tried ∷ []) []) ≤ 1
-      go true = omega arith
-      go false = omega arith
+  far_lost = lost_most tried
 
 -- the seat holds the same front, and the same node falls out
 pub front_again : {reg word node x : ℕ} (call : Call) {u w : SeatData} → Sees (BackupExchange reg word node) reg x u w → HoldsFront node call u → HoldsFront node call w
@@ -119,8 +115,8 @@ lost_first {reg} {u} {w} first last found far sees = record {
 }
 
 -- since a look under the seat's Back claim that finds the claim's node, the history has no entry on the cell
-calm_now : {reg word node x : ℕ} {call : Call} {u w : SeatData} → Sound u.view → (may : MayExchange reg word node call u.view) → (sees : Sees (BackupExchange reg word node) reg x u w) → x / 2 ≡ word / 2
-    → NoneOn u.view.plan reg (drop (length u.view.seen) sees.looks.log)
+calm_now : {reg word node x : ℕ} {call : Call} {u w : SeatData} → Sound u.view → (may : MayExchange reg word node call u.view)
+    → (sees : Sees (BackupExchange reg word node) reg x u w) → x / 2 ≡ word / 2 → NoneOn u.view.plan reg (drop (length u.view.seen) sees.looks.log)
 calm_now {reg} {word} {x} {u} sound may sees near =
     let began = (sound.claims.told BACK (word / 2) may.back may.claimed (inl refl) may.stands).began in
     none_later u.view.plan reg may.back.at u.view.seen sees.looks.log began (sees.looks.rest, sees.looks.seen)
@@ -131,11 +127,11 @@ module _ {reg word node x : ℕ} {u m : SeatData} (first : Sound u.view) (middle
   abbrev once : List Counted
   once = tried sees ∷ []
 
-  pub may_retry : (call : Call) → MayExchange reg word node call u.view → MayExchange reg x node call m.view
-  may_retry call may = may_again reg word x node call u.view m.view (tried_only sees) near may
+  may_retry : {call : Call} → MayExchange reg word node call u.view → MayExchange reg x node call m.view
+  may_retry {call} may = may_again reg word x node call u.view m.view (tried_only sees) near may
 
-  pub won_second : (call : Call) (w : SeatData) → Sound w.view → Won reg x node call m w → HasWon reg word node call u w
-  won_second call w last won = record {
+  pub won_second : {call : Call} {w : SeatData} → Sound w.view → Won reg x node call m w → HasWon reg word node call u w
+  won_second last won = record {
     tries = once;
     mid = m;
     found = x;
@@ -153,20 +149,22 @@ module _ {reg word node x : ℕ} {u m : SeatData} (first : Sound u.view) (middle
   }
 
   -- the mark can't be cleared twice, so a second loss has another node
-  second_far : (call : Call) (y : ℕ) (w : SeatData) → MayExchange reg word node call u.view → HasFound reg word u.view → y ≢ x → Sees (BackupExchange reg x node) reg y m w → y / 2 ≢ x / 2
-  second_far call y w may found ne again same =
-      let low : y ≤ x = again.looks.falls (look_at reg x (length m.view.seen)) (tried_found sees) refl (calm_now middle (may_retry call may) again same) in
+  second_far : {call : Call} {y : ℕ} {w : SeatData} → MayExchange reg word node call u.view → HasFound reg word u.view → y ≢ x → Sees (BackupExchange reg x node) reg y m w → y / 2 ≢ x / 2
+  second_far {y = y} may found ne again same =
+      let low : y ≤ x = again.looks.falls (look_at reg x (length m.view.seen)) (tried_found sees) refl (calm_now middle (may_retry may) again same) in
       let fell : x ≤ word = sees.looks.falls (look_at reg word (length u.view.seen)) found refl (calm_now first may sees near) in
       absurd (omega arith)
 
   -- an entry since the second look is one since the first
-  earlier : (y : ℕ) (w : SeatData) → Sees (BackupExchange reg x node) reg y m w → NoneOn w.view.plan reg (drop (length u.view.seen) w.view.seen) → NoneOn m.view.plan reg (drop (length m.view.seen) w.view.seen)
-  earlier y w again none = none_later m.view.plan reg (length u.view.seen) m.view.seen w.view.seen (longer_seen u.view.seen m.view.seen (tried_on sees)) (tried_on again)
+  earlier : {y : ℕ} {w : SeatData} → Sees (BackupExchange reg x node) reg y m w → NoneOn w.view.plan reg (drop (length u.view.seen) w.view.seen)
+      → NoneOn m.view.plan reg (drop (length m.view.seen) w.view.seen)
+  earlier {w = w} again none = none_later m.view.plan reg (length u.view.seen) m.view.seen w.view.seen (longer_seen u.view.seen m.view.seen (tried_on sees)) (tried_on again)
       (subst (λ (p : Plan). NoneOn p reg (drop (length u.view.seen) w.view.seen)) (ap (λ (z : View). z.plan) (tried_view again)) none)
 
-  pub lost_second : (call : Call) (y : ℕ) (w : SeatData) → MayExchange reg word node call u.view → HasFound reg word u.view → Sound w.view → y ≢ x → Sees (BackupExchange reg x node) reg y m w → HasLost reg u w
-  lost_second call y w may found last ne again =
-      let far = second_far call y w may found ne again in
+  pub lost_second : {call : Call} {y : ℕ} {w : SeatData} → MayExchange reg word node call u.view → HasFound reg word u.view → Sound w.view → y ≢ x
+      → Sees (BackupExchange reg x node) reg y m w → HasLost reg u w
+  lost_second {w = w} may found last ne again =
+      let far = second_far may found ne again in
       let found_again = tried_found sees in
       let twice : List Counted = tried again ∷ [] in
       let changed = far_changed again found_again far in
@@ -181,5 +179,5 @@ module _ {reg word node x : ℕ} {u m : SeatData} (first : Sound u.view) (middle
         few = omega arith;
         view = tried_only again ∙ ap (λ (z : View). record z { seen = w.view.seen; look = w.view.look; trail = w.view.trail }) (tried_only sees);
         same = again.same ∙ ap (λ (z : SeatData). stepped w.view z) sees.same;
-        changed = λ none. changed (earlier y w again none);
+        changed = λ none. changed (earlier again none);
       }

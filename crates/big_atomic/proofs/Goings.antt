@@ -112,7 +112,7 @@ goes_none k u sound = goes_still k [] u u refl (sym (append-nil u.view.trail)) r
 last_one : (k : ℕ) (found : Option ℕ) (step : Counted) (seen : List Entry) → is_look k step.kind ≡ true → step.seen ≡ length seen → last_look k found (step ∷ []) ≡ Some (length seen)
 last_one k found step seen look whole = ap (λ (b : Bool). cond b (Some step.seen) found) look ∙ ap (λ (n : ℕ). Some n) whole
 
-lost_most : (step : Counted) → lost_steps (step ∷ []) ≤ 1
+pub lost_most : (step : Counted) → lost_steps (step ∷ []) ≤ 1
 lost_most step = go (is_lost step)
   where
     go : (b : Bool) → length (cond b (step ∷ []) []) ≤ 1

@@ -8,6 +8,7 @@ pub mod Preparing
 pub mod Reading
 pub mod Refusing
 pub mod Scanning
+pub mod Sharing
 pub mod Shortage
 pub mod StoreEnds
 pub mod Storing

@@ -103,7 +103,7 @@ module _ {node : ℕ} {words : List ℕ} {before taken filled now : SeatData} (p
   steps_still = still-append (store_steps node 0 words at) (counted (ClaimStore OWN node) (node + 1) at ∷ []) (stores_still node 0 at words) refl
 
   only : OnlySteps before.view now.view
-  only = subst (λ (z : View). z ≡ record before.view { seen = z.seen; own = z.own; retired = z.retired; look = z.look; trail = z.trail; claims = z.claims; links = z.links; scan = z.scan }) (sym whole_view) refl
+  only = subst (λ (z : View). OnlySteps before.view z) (sym whole_view) refl
 
   held : now.holding ≡ before.holding ++ node ∷ []
   held = ap (λ (z : SeatData). z.holding) p.announces ∙ (ap (λ (z : SeatData). z.holding) p.fills.same ∙ p.takes.holding)

@@ -84,7 +84,7 @@ module _ {c reg word : ℕ} {rec : List ℕ} {before now : SeatData} (r : HasRea
     looked = seen.looked;
     first = r.first;
     there = there;
-    on = on;
+    on = on now.view.plan;
     late = seen.looked.upto;
     right = right;
     idle = r.idle;
@@ -254,6 +254,10 @@ pub record HasReadHeld (words rec : List ℕ) (n : ℕ) (before mid : SeatData) 
   pub first : Sound before.view
   pub read : HasRead n rec before mid
   pub last : Sound mid.view
+
+pub has_read_held : {words rec : List ℕ} {n : ℕ} {before mid : SeatData} → IsHolding words before.view → On (claim_of HOLD before.view) n → IsSeat before → HasRead n rec before mid → IsSeat mid
+    → HasReadHeld words rec n before mid
+has_read_held holds on first read last = record { holds = holds; on = on; first = first.sound; read = read; last = last.sound }
 
 module _ {words rec : List ℕ} {n : ℕ} {before mid : SeatData} (r : HasReadHeld words rec n before mid) where
   abbrev reads : List Counted

@@ -1,5 +1,6 @@
 -- A scan in the middle of a call, whose Back claim stands.
-use Rattle.std.proofs.Common.{◌≡◌, ◌≢◌, ◌∙◌, ℕ, ◌+◌, ◌*◌, ◌≤◌, suc, zero, true, not, ◌&&◌, cond, List, [], ◌∷◌, ◌++◌, Some, length, filter, length-append, refl, sym, ap, subst, arith, ◌⊎◌, inl, inr, ⊎_elim}
+use Rattle.std.proofs.Common.{◌≡◌, ◌≢◌, ◌∙◌, ℕ, ◌+◌, ◌*◌, ◌≤◌, suc, zero, true, not, ◌&&◌, cond, List, [], ◌∷◌, ◌++◌, Some}
+use Rattle.std.proofs.Common.{length, filter, length-append, refl, sym, ap, subst, arith, ◌⊎◌, inl, inr, ⊎_elim}
 use Rattle.std.proofs.lemmas.List.Filters.{length-filter_both}
 use Rattle.big_atomic.proofs.Goings.{goes_still}
 use Rattle.big_atomic.proofs.Paid.{AreStill, all_still, scan_loads-append, still, still-append, still_exchanges, still_lost}
@@ -45,7 +46,8 @@ clear_is n clear e = ⊎_elim
     e
 
 -- the held record and its claim stay
-abbrev pub holding_stays : (words : List ℕ) (v w : View) → held_by w.seen (number w) w.stands ≡ held_by v.seen (number v) v.stands → claim_of HOLD w ≡ claim_of HOLD v → IsHolding words v → IsHolding words w
+abbrev pub holding_stays : (words : List ℕ) (v w : View) → held_by w.seen (number w) w.stands ≡ held_by v.seen (number v) v.stands → claim_of HOLD w ≡ claim_of HOLD v
+    → IsHolding words v → IsHolding words w
 holding_stays words v w held claim h = record {
   held = held ∙ h.held;
   node = h.node;
@@ -121,7 +123,8 @@ module _ {u w : SeatData} (s : IsScan u w) (first : IsSeat u) (last : IsSeat w) 
   }
 
 -- the same later in the call
-pub own_words_later : {v w : View} {loads : List Counted} → number w ≡ number v → held_by w.seen (number w) w.stands ≡ held_by v.seen (number v) v.stands → claim_of HOLD w ≡ claim_of HOLD v → FindsOwnWords v loads → FindsOwnWords w loads
+pub own_words_later : {v w : View} {loads : List Counted} → number w ≡ number v → held_by w.seen (number w) w.stands ≡ held_by v.seen (number v) v.stands
+    → claim_of HOLD w ≡ claim_of HOLD v → FindsOwnWords v loads → FindsOwnWords w loads
 own_words_later {v} {w} {loads} least held claim f = record {
   back = ⊎_elim (λ e. inl (ap (λ (n : ℕ). found_at (claim_at n BACK) loads) least ∙ e)) (λ e. inr (ap (λ (n : ℕ). stood_at (claim_at n BACK) loads) least ∙ e)) f.back;
   walk = ap (λ (n : ℕ). found_at (claim_at n WALK) loads) least ∙ f.walk;

@@ -1,5 +1,6 @@
 -- How a call is answered Full.
-use Rattle.std.proofs.Common.{◌≡◌, ◌∙◌, ℕ, ◌+◌, ◌*◌, ◌<◌, ◌≤◌, true, false, List, [], ◌∷◌, ◌++◌, Option, length, take, drop, filter, append_assoc, append-nil, refl, sym, ap, subst, arith, ◌⊎◌, inl, inr, ⊎_elim}
+use Rattle.std.proofs.Common.{◌≡◌, ◌∙◌, ℕ, ◌+◌, ◌*◌, ◌<◌, ◌≤◌, true, false, List, [], ◌∷◌, ◌++◌, Option}
+use Rattle.std.proofs.Common.{length, take, drop, filter, append_assoc, append-nil, refl, sym, ap, subst, arith, ◌⊎◌, inl, inr, ⊎_elim}
 use Rattle.std.proofs.lemmas.Bool.{and_right, cases_Bool}
 use Rattle.big_atomic.proofs.Answered.{MayEnd, ended_back, held_then, right_at, scanned_since, EndsAs, ended_as}
 use Rattle.big_atomic.proofs.Goings.{calling_then, held_stays}
@@ -152,7 +153,7 @@ module _ {shared : ObjectData} {reg : ℕ} {call : Call} {steps : List Counted} 
     looked = calling.looked;
     first = s.past.began.law;
     there = s.there now.view.plan (subst (λ (p : Plan). reg < p.registers) (sym (ap (λ (z : View). z.plan) calling.goes.only ∙ s.past.began.ready.ours.plan)) s.past.began.there);
-    on = s.on;
+    on = s.on now.view.plan;
     late = calling.looked.upto;
     right = right_full;
     idle = s.past.began.ready.idle;

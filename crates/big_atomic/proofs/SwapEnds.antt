@@ -61,8 +61,9 @@ module _ {shared : ObjectData} {reg look : ℕ} {old : List ℕ} {steps : List C
       )
 
 -- FULL
-pub room_short : {shared : ObjectData} {reg word look : ℕ} {rec old : List ℕ} {steps : List Counted} {before looked now : SeatData} (new : List ℕ) → Decides shared reg word look rec steps before looked
-    → rec ≡ old → is_same old new ≡ false → HasRoom false looked now → IsSeat now → IsShort shared reg (Swap reg old new) steps look before looked now
+pub room_short : {shared : ObjectData} {reg word look : ℕ} {rec old : List ℕ} {steps : List Counted} {before looked now : SeatData} (new : List ℕ)
+    → Decides shared reg word look rec steps before looked → rec ≡ old → is_same old new ≡ false → HasRoom false looked now → IsSeat now
+    → IsShort shared reg (Swap reg old new) steps look before looked now
 room_short {reg} {old} {looked} new d is other room law = is_short (Swap reg old new) d room law (λ p inside. inside) (λ p. refl)
     (ap (λ (b : Bool). b && not (is_same old new)) (same_from_words (register_at looked.view (length looked.view.seen) reg) old (d.there ∙ is)) ∙ ap not other)
     (λ p log. refl) (λ c held. refl)

@@ -3,7 +3,7 @@ use Rattle.std.proofs.Common.{◌≡◌, ◌∙◌, ℕ, ◌+◌, ◌*◌, ◌/�
 use Rattle.big_atomic.proofs.Goings.{calling_then}
 use Rattle.big_atomic.proofs.Paid.{scan_loads-append, costs_then}
 use Rattle.big_atomic.proofs.Winning.{GivesRecord, WonCall, EndsClaims}
-use Rattle.big_atomic.specs.Calling.{Began, Goes, HasClaim, HasWon, IsChanging, IsPrepared, IsWorking, Costs}
+use Rattle.big_atomic.specs.Calling.{Goes, HasClaim, HasWon, IsChanging, IsPrepared, IsWorking, Costs}
 use Rattle.big_atomic.specs.Calls.{ScansForWant, register_at}
 use Rattle.big_atomic.specs.Turns.{exchanges, scan_loads}
 use Rattle.seat_history.proofs.Changed.{set_at_here, same_from_words}
@@ -28,7 +28,7 @@ use Rattle.step_rules.specs.Views.{claim_of, look_at, silent, reading}
 use Rattle.step_rules.specs.declared.plan.Plan.{Plan}
 use Rattle.step_rules.specs.declared.view.Claim.{Claim}
 use Rattle.step_rules.specs.declared.view.Counted.{Counted}
-use Rattle.big_atomic.proofs.Answered.{MayEnd}
+use Rattle.big_atomic.proofs.Answered.{MayEnd, goes_of}
 use Rattle.step_rules.specs.declared.view.View.{View}
 
 -- a call with its past that holds a prepared node
@@ -38,7 +38,8 @@ pub record Trying (shared : ObjectData) (reg word node : ℕ) (rec new : List �
   pub law : IsSeat now
 
 -- what holds of a call in progress after further steps of it
-pub changing_then : {shared : ObjectData} {reg look : ℕ} {a b : List Counted} {before mid now : SeatData} → IsChanging shared reg a look before mid → Goes reg (Some (length mid.view.seen)) b mid now → scan_loads b ≡ 0
+pub changing_then : {shared : ObjectData} {reg look : ℕ} {a b : List Counted} {before mid now : SeatData} → IsChanging shared reg a look before mid
+    → Goes reg (Some (length mid.view.seen)) b mid now → scan_loads b ≡ 0
     → claim_of HOLD now.view ≡ claim_of HOLD mid.view → claim_of WALK now.view ≡ claim_of WALK mid.view → IsChanging shared reg (a ++ b) look before now
 changing_then {a} {b} c goes none hold walk = record {
   calling = calling_then c.calling goes hold;
@@ -56,7 +57,7 @@ changing_end {reg} {now} q call reply c idle there on late right full = record {
   looked = c.calling.looked;
   first = c.began.law;
   there = there now.view.plan (subst (λ (p : Plan). reg < p.registers) (sym (ap (λ (z : View). z.plan) c.calling.goes.only ∙ c.began.ready.ours.plan)) c.began.there);
-  on = on;
+  on = on now.view.plan;
   late = late;
   right = right;
   idle = c.began.ready.idle;
@@ -65,8 +66,9 @@ changing_end {reg} {now} q call reply c idle there on late right full = record {
 }
 
 -- the node was prepared
-pub trying : {shared : ObjectData} {reg word node look : ℕ} {rec new : List ℕ} {steps : List Counted} {before mid now : SeatData} → IsChanging shared reg steps look before mid → HasClaim BACK reg word mid.view → register_at mid.view (length mid.view.seen) reg ≡ rec
-    → is_same rec new ≡ false → mid.holding ≡ [] → (p : IsPrepared node new mid now) → IsSeat now → Trying shared reg word node rec new (steps ++ p.steps) look before now
+pub trying : {shared : ObjectData} {reg word node look : ℕ} {rec new : List ℕ} {steps : List Counted} {before mid now : SeatData} → IsChanging shared reg steps look before mid
+    → HasClaim BACK reg word mid.view → register_at mid.view (length mid.view.seen) reg ≡ rec → is_same rec new ≡ false → mid.holding ≡ []
+    → (p : IsPrepared node new mid now) → IsSeat now → Trying shared reg word node rec new (steps ++ p.steps) look before now
 trying {shared} {reg} {word} {node} {rec} {new} {before} {mid} {now} c claim is other idle p law =
     let back : claim_of BACK now.view ≡ claim_of BACK mid.view = p.others BACK (λ e. absurd (omega arith)) in
     let changes = ap (λ (z : View). z.changes) ((p.goes reg).only) in
@@ -74,20 +76,19 @@ trying {shared} {reg} {word} {node} {rec} {new} {before} {mid} {now} c claim is 
     let left = c.began.left in
     record {
       changing = changing_then c (p.goes reg) p.looks.none_scanned (p.others HOLD (λ e. absurd (omega arith))) (p.others WALK (λ e. absurd (omega arith)));
-      working = working_on shared reg word node rec new mid now c.began claim is other idle p law back (omega arith)
-          (record { object = (p.goes reg).object ∙ (c.calling.goes.object ∙ c.began.ready.ours.object); plan = ap (λ (z : View). z.plan) (p.goes reg).only ∙ (ap (λ (z : View). z.plan) c.calling.goes.only ∙ c.began.ready.ours.plan) });
+      working = working_on back (omega arith) (goes_of (p.goes reg) (goes_of c.calling.goes c.began.ready.ours));
       law = law;
     }
   where
-    working_on : (shared : ObjectData) (reg word node : ℕ) (rec new : List ℕ) (mid now : SeatData) → Began shared reg before → HasClaim BACK reg word mid.view → register_at mid.view (length mid.view.seen) reg ≡ rec → is_same rec new ≡ false → mid.holding ≡ [] → IsPrepared node new mid now → IsSeat now
-        → claim_of BACK now.view ≡ claim_of BACK mid.view → 0 < now.view.changes → IsOf shared now → IsWorking shared reg word node rec new now
-    working_on shared reg word node rec new mid now began claim is other idle p law back left of = record {
+    working_on : claim_of BACK now.view ≡ claim_of BACK mid.view → 0 < now.view.changes → IsOf shared now → IsWorking shared reg word node rec new now
+    working_on back left of = record {
       ours = of;
-      there = began.there;
+      there = c.began.there;
       stands = subst (λ (y : Claim). On y (word / 2)) (sym back) claim.stands;
       cell = ap (λ (y : Claim). y.cell) back ∙ claim.cell;
       other = other;
-      record_is = (λ i. register_at (record now.view { seen = p.seen i }) (ap (λ (y : Claim). y.at) back i) reg) ∙ (ap (λ (n : ℕ). (state_at mid.view.seen n).registers reg) claim.now_at ∙ is);
+      record_is = (λ i. register_at (record now.view { seen = p.seen i }) (ap (λ (y : Claim). y.at) back i) reg)
+          ∙ (ap (λ (n : ℕ). (state_at mid.view.seen n).registers reg) claim.now_at ∙ is);
       found = p.look ∙ (claim.found ∙ ap (λ (s : List Entry). Some (look_at reg word (length s))) (sym p.seen));
       holding = p.holding ∙ ap (λ (l : List ℕ). l ++ node ∷ []) idle;
       own = p.own;
@@ -103,7 +104,8 @@ pub prepared_costs : {node : ℕ} {new : List ℕ} {mid now : SeatData} {steps :
 prepared_costs before p costs = let few = p.few in costs_then p.steps costs p.none_lost p.looks.none_exchanged (omega arith)
 
 -- the exchange may be tried for a call that gives the register the new record
-may_try : {shared : ObjectData} {reg word node : ℕ} {rec new : List ℕ} {seat : SeatData} (call : Call) → IsWorking shared reg word node rec new seat → ((p : Plan) → cell_of p call ≡ reg) → ((c : Contents) → c.registers reg ≡ rec → is_change c call ≡ true) → IsWide call
+may_try : {shared : ObjectData} {reg word node : ℕ} {rec new : List ℕ} {seat : SeatData} (call : Call) → IsWorking shared reg word node rec new seat
+    → ((p : Plan) → cell_of p call ≡ reg) → ((c : Contents) → c.registers reg ≡ rec → is_change c call ≡ true) → IsWide call
     → ((c : Contents) → c.registers reg ≡ rec → (contents_after c call).registers reg ≡ new) → MayExchange reg word node call seat.view
 may_try {reg} {word} {node} {seat} call w on changes wide after =
     let v : View = seat.view in
@@ -125,11 +127,13 @@ may_try {reg} {word} {node} {seat} call w on changes wide after =
       left = w.left;
     })
 
-pub may_store : {shared : ObjectData} {reg word node : ℕ} {rec new : List ℕ} {seat : SeatData} → IsWorking shared reg word node rec new seat → length new ≡ WIDTH → MayExchange reg word node (Store reg new) seat.view
+pub may_store : {shared : ObjectData} {reg word node : ℕ} {rec new : List ℕ} {seat : SeatData} → IsWorking shared reg word node rec new seat → length new ≡ WIDTH
+    → MayExchange reg word node (Store reg new) seat.view
 may_store {reg} {new} w wide = may_try (Store reg new) w (λ p. refl)
     (λ c is. ap (λ (l : List ℕ). not (is_same l new)) is ∙ ap not w.other) wide (λ c is. set_at_here c.registers reg new)
 
-pub may_swap : {shared : ObjectData} {reg word node : ℕ} {old new : List ℕ} {seat : SeatData} → IsWorking shared reg word node old new seat → length old ≡ WIDTH → length new ≡ WIDTH → MayExchange reg word node (Swap reg old new) seat.view
+pub may_swap : {shared : ObjectData} {reg word node : ℕ} {old new : List ℕ} {seat : SeatData} → IsWorking shared reg word node old new seat
+    → length old ≡ WIDTH → length new ≡ WIDTH → MayExchange reg word node (Swap reg old new) seat.view
 may_swap {reg} {old} {new} w old_wide wide =
     let was = same_from_words old old refl in
     may_try (Swap reg old new) w (λ p. refl)
@@ -169,5 +173,6 @@ won_call {reg} told t won ended last = record {
 }
 
 -- a scan of a call that tried its exchange was for want of a node
-pub scans_fit : (told : Reply) (a b : List Counted) (before : SeatData) → ((scan_loads a ≡ 0) ⊎ ((scan_loads a ≡ 4 * before.view.plan.seats) × (before.free ≡ []))) → scan_loads b ≡ scan_loads a → 0 < exchanges b → ScansForWant told b before
+pub scans_fit : (told : Reply) (a b : List Counted) (before : SeatData) → ((scan_loads a ≡ 0) ⊎ ((scan_loads a ≡ 4 * before.view.plan.seats) × (before.free ≡ [])))
+    → scan_loads b ≡ scan_loads a → 0 < exchanges b → ScansForWant told b before
 scans_fit told a b before scans same tried = ⊎_elim (λ e. inl (same ∙ e)) (λ e. inr (same ∙ e.0, e.1, inr tried)) scans

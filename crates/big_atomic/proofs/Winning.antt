@@ -1,5 +1,6 @@
 -- How a call whose exchange won is answered.
-use Rattle.std.proofs.Common.{◌≡◌, ◌∙◌, ℕ, ◌+◌, ◌/◌, ◌<◌, ◌≤◌, suc, zero, Bool, true, false, not, cond, eq-eqb, List, [], ◌∷◌, ◌++◌, Option, None, length, set, get_or, filter, take, drop, append_assoc, length-append, refl, sym, ap, subst, arith, inl}
+use Rattle.std.proofs.Common.{◌≡◌, ◌∙◌, ℕ, ◌+◌, ◌/◌, ◌<◌, ◌≤◌, suc, zero, Bool, true, false, not, cond, eq-eqb, List, [], ◌∷◌, ◌++◌, Option, None}
+use Rattle.std.proofs.Common.{length, set, get_or, filter, take, drop, append_assoc, length-append, refl, sym, ap, subst, arith, inl}
 use Rattle.std.proofs.Math.Seq.{take-append_seam}
 use Rattle.std.proofs.lemmas.List.{get_or-set_other}
 use mathlib.Core.Option.{some}
@@ -89,7 +90,8 @@ exchanges_most (c ∷ a) = go (is_exchange c.kind) (exchanges_most a)
 found_kept : (k word node n : ℕ) → is_lost (counted (BackupExchange k word node) word n) ≡ false
 found_kept k word node n = ap not (eq-eqb (word / 2) (word / 2) refl)
 
-module _ {k word node : ℕ} {call : Call} {told : Reply} {steps : List Counted} {look : ℕ} {before now after final : SeatData} (w : WonCall k word node call told steps look before now after final) (g : GivesRecord k call told (register_at now.view (claim_of BACK now.view).at k)) where
+module _ {k word node : ℕ} {call : Call} {told : Reply} {steps : List Counted} {look : ℕ} {before now after final : SeatData}
+    (w : WonCall k word node call told steps look before now after final) (g : GivesRecord k call told (register_at now.view (claim_of BACK now.view).at k)) where
   abbrev mid : SeatData
   mid = w.won.mid
 
@@ -102,8 +104,14 @@ module _ {k word node : ℕ} {call : Call} {told : Reply} {steps : List Counted}
   abbrev pub stand : Stand
   stand = changing log call mid.view
 
+  abbrev exchanged : Counted
+  exchanged = counted (BackupExchange k w.won.found node) w.won.found (length es)
+
+  abbrev cleared : ℕ → Counted
+  cleared c = counted (ClaimClear c) 0 (length es)
+
   abbrev tail : List Counted
-  tail = counted (BackupExchange k w.won.found node) w.won.found (length es) ∷ counted (ClaimClear OWN) 0 (length es) ∷ counted (ClaimClear BACK) 0 (length es) ∷ []
+  tail = exchanged ∷ cleared OWN ∷ cleared BACK ∷ []
 
   abbrev pub all_steps : List Counted
   all_steps = (steps ++ w.won.tries) ++ tail
@@ -138,7 +146,9 @@ module _ {k word node : ℕ} {call : Call} {told : Reply} {steps : List Counted}
       let calm : NoneOn mid.view.plan k (drop at log) = w.won.won.wins.calm (claim_of BACK mid.view) back_there in
       let inside : k < mid.view.plan.registers = subst (λ (p : Plan). k < p.registers) (sym plan_same) w.inside in
       let now_on : GoesOn now.view.seen mid.view.seen = w.won.retried.goes.seen in
-      let began_now = (w.middle.sound.claims.told BACK (word / 2) (claim_of BACK now.view) (let four = w.middle.sound.claims.four in at_there now.view.claims BACK (silent 0) (omega arith)) (inl refl) w.stands).began in
+      let four = w.middle.sound.claims.four in
+      let there : get_elem? now.view.claims BACK ≡ some (claim_of BACK now.view) = at_there now.view.claims BACK (silent 0) (omega arith) in
+      let began_now = (w.middle.sound.claims.told BACK (word / 2) (claim_of BACK now.view) there (inl refl) w.stands).began in
       quiet_register mid.view.plan log at k inside (omega arith) calm
       ∙ (ap (λ (s : List Entry). (state_at s at).registers k) mid_on.1 ∙ (ap (λ (c : Contents). c.registers k) (state_at-append mid.view.seen mid_on.0 at began)
       ∙ (ap (λ (y : Claim). (state_at mid.view.seen y.at).registers k) claims_same
@@ -158,16 +168,17 @@ module _ {k word node : ℕ} {call : Call} {told : Reply} {steps : List Counted}
   number_same = ap (λ (z : View). number z) calling.goes.only
 
   trail_is : final.view.trail ≡ before.view.trail ++ all_steps
-  trail_is = ap (λ (z : View). z.trail) final_view ∙ (ap (λ (t : List Counted). t ++ counted (ClaimClear BACK) 0 (length es) ∷ []) (append_assoc mid.view.trail (counted (BackupExchange k w.won.found node) w.won.found (length es) ∷ []) (counted (ClaimClear OWN) 0 (length es) ∷ []))
-      ∙ (append_assoc mid.view.trail (counted (BackupExchange k w.won.found node) w.won.found (length es) ∷ counted (ClaimClear OWN) 0 (length es) ∷ []) (counted (ClaimClear BACK) 0 (length es) ∷ [])
+  trail_is = ap (λ (z : View). z.trail) final_view ∙ (ap (λ (t : List Counted). t ++ cleared BACK ∷ []) (append_assoc mid.view.trail (exchanged ∷ []) (cleared OWN ∷ []))
+      ∙ (append_assoc mid.view.trail (exchanged ∷ cleared OWN ∷ []) (cleared BACK ∷ [])
       ∙ (ap (λ (t : List Counted). t ++ tail) calling.goes.trail ∙ append_assoc before.view.trail (steps ++ w.won.tries) tail)))
 
   tail_kept : lost_steps tail ≡ 0
-  tail_kept = ap (λ (b : Bool). length (cond b (counted (BackupExchange k w.won.found node) w.won.found (length es) ∷ []) [])) (found_kept k w.won.found node (length es))
+  tail_kept = ap (λ (b : Bool). length (cond b (exchanged ∷ []) [])) (found_kept k w.won.found node (length es))
 
   right : IsRight final.view.plan final.view.seen before.view.stands stand
   right =
-      let at = w.last.sound.lawful.right (length before.view.stands) stand (subst (λ (s : List Stand). get_elem? s (length before.view.stands) ≡ some stand) (sym stands_are) (at_seam before.view.stands stand)) in
+      let there = subst (λ (s : List Stand). get_elem? s (length before.view.stands) ≡ some stand) (sym stands_are) (at_seam before.view.stands stand) in
+      let at = w.last.sound.lawful.right (length before.view.stands) stand there in
       subst (λ (s : List Stand). IsRight final.view.plan final.view.seen s stand) (ap (take (length before.view.stands)) stands_are ∙ take-append_seam before.view.stands (stand ∷ [])) at
 
   -- one node fell out
@@ -191,19 +202,21 @@ module _ {k word node : ℕ} {call : Call} {told : Reply} {steps : List Counted}
 
   paid : TurnsArePaid before.view.plan k (number before.view) final.view.seen None all_steps
   paid =
-      let earlier = paid_more before.view.plan k (number before.view) mid.view.seen final.view.seen None (steps ++ w.won.tries) on (saw_within mid.view before.view.trail (steps ++ w.won.tries) calling.goes.sound calling.goes.trail) calling.goes.paid in
-      let x : Counted = counted (BackupExchange k w.won.found node) w.won.found (length es) in
+      let within = saw_within mid.view before.view.trail (steps ++ w.won.tries) calling.goes.sound calling.goes.trail in
+      let earlier = paid_more before.view.plan k (number before.view) mid.view.seen final.view.seen None (steps ++ w.won.tries) on within calling.goes.paid in
       paid_then before.view.plan k (number before.view) final.view.seen None (steps ++ w.won.tries) tail earlier
-      (paid_then before.view.plan k (number before.view) final.view.seen _ (x ∷ []) (counted (ClaimClear OWN) 0 (length es) ∷ counted (ClaimClear BACK) 0 (length es) ∷ [])
-      (paid_kept before.view.plan k (number before.view) final.view.seen _ x (found_kept k w.won.found node (length es)))
-      (paid_still before.view.plan k (number before.view) final.view.seen _ (counted (ClaimClear OWN) 0 (length es) ∷ counted (ClaimClear BACK) 0 (length es) ∷ []) refl))
+      (paid_then before.view.plan k (number before.view) final.view.seen _ (exchanged ∷ []) (cleared OWN ∷ cleared BACK ∷ [])
+      (paid_kept before.view.plan k (number before.view) final.view.seen _ exchanged (found_kept k w.won.found node (length es)))
+      (paid_still before.view.plan k (number before.view) final.view.seen _ (cleared OWN ∷ cleared BACK ∷ []) refl))
 
   few : lost_steps all_steps ≤ changes_on before.view.plan k (number before.view) (drop look final.view.seen)
   few =
       let lost = lost-append (steps ++ w.won.tries) tail in
       let kept = tail_kept in
       let before_that = calling.looked.few in
-      let sum = ap (changes_on before.view.plan k (number before.view)) (drop_parts look mid.view.seen final.view.seen calling.looked.upto on) ∙ changes-append before.view.plan k (number before.view) (drop look mid.view.seen) (drop (length mid.view.seen) final.view.seen) in
+      let parts = drop_parts look mid.view.seen final.view.seen calling.looked.upto on in
+      let sum = ap (changes_on before.view.plan k (number before.view)) parts
+      ∙ changes-append before.view.plan k (number before.view) (drop look mid.view.seen) (drop (length mid.view.seen) final.view.seen) in
       omega arith
 
   pub won_held : held_by final.view.seen (number final.view) final.view.stands ≡ held_by before.view.seen (number before.view) before.view.stands
@@ -211,7 +224,8 @@ module _ {k word node : ℕ} {call : Call} {told : Reply} {steps : List Counted}
       ap (λ (z : View). held_by z.seen (number z) z.stands) final_view
       ∙ (held_next es (number mid.view) mid.view.stands stand refl
       ∙ (g.keeps (state_at es (length log)) (held_by es (number mid.view) mid.view.stands)
-      ∙ (held_longer mid.view (mid_on.0 ++ entry (number mid.view) call ∷ []) es calling.goes.sound.lawful (ap (λ (l : List Entry). l ++ entry (number mid.view) call ∷ []) mid_on.1 ∙ append_assoc mid.view.seen mid_on.0 (entry (number mid.view) call ∷ []))
+      ∙ (held_longer mid.view (mid_on.0 ++ entry (number mid.view) call ∷ []) es calling.goes.sound.lawful
+      (ap (λ (l : List Entry). l ++ entry (number mid.view) call ∷ []) mid_on.1 ∙ append_assoc mid.view.seen mid_on.0 (entry (number mid.view) call ∷ []))
       ∙ held_stays w.first.sound calling.goes)))
 
   pub won_hold : claim_of HOLD final.view ≡ claim_of HOLD before.view
@@ -271,7 +285,8 @@ module _ {k word node : ℕ} {call : Call} {told : Reply} {steps : List Counted}
       (ap (λ (z : View). (claim_of BACK z).word) final_view ∙ cleared_word claims BACK)
       (ap (λ (z : View). (claim_of WALK z).word) final_view ∙ (ap (λ (y : Claim). y.word) (get_or-set_other claims BACK WALK (silent 0) (silent 0) (λ e. absurd (omega arith))
       ∙ get_or-set_other mid.view.claims OWN WALK (silent 0) (silent 0) (λ e. absurd (omega arith))) ∙ (ap (λ (z : View). (claim_of WALK z).word) w.won.retried.view ∙ walk)))
-      (ap (λ (z : View). (claim_of OWN z).word) final_view ∙ (ap (λ (y : Claim). y.word) (get_or-set_other claims BACK OWN (silent 0) (silent 0) (λ e. absurd (omega arith))) ∙ cleared_word mid.view.claims OWN))
+      (ap (λ (z : View). (claim_of OWN z).word) final_view ∙ (ap (λ (y : Claim). y.word) (get_or-set_other claims BACK OWN (silent 0) (silent 0) (λ e. absurd (omega arith)))
+      ∙ cleared_word mid.view.claims OWN))
       won_stays
 
   -- what the call spent

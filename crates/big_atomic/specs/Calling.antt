@@ -99,7 +99,8 @@ pub record TurnedOnce (c reg seen word : ℕ) (before now : SeatData) : Type 0 w
 -- the same node was found, and the claim stands; or another one, and then the history has an entry on the register since
 abbrev pub HasTurned : ℕ → ℕ → ℕ → Rechecked → SeatData → SeatData → Type 0
 HasTurned c reg seen (Same word) before now = TurnedOnce c reg seen word before now × (lost_steps (turn_steps c reg seen word before now) ≡ 0) × HasClaim c reg word now.view
-HasTurned c reg seen (Other word) before now = TurnedOnce c reg seen word before now × (lost_steps (turn_steps c reg seen word before now) ≡ 1) × (¬ NoneOn now.view.plan reg (drop (length before.view.seen) now.view.seen))
+HasTurned c reg seen (Other word) before now = TurnedOnce c reg seen word before now × (lost_steps (turn_steps c reg seen word before now) ≡ 1)
+    × (¬ NoneOn now.view.plan reg (drop (length before.view.seen) now.view.seen))
 
 -- some turns, of which the first begins with a look
 pub record HasSeen (c reg word : ℕ) (before now : SeatData) : Type 0 where
@@ -232,7 +233,8 @@ pub record HasLost (reg : ℕ) (before now : SeatData) : Type 0 where
 
 -- whatever came before in the call, the store is done, and the seat is ready
 abbrev pub EndsStore : ObjectData → ℕ → List ℕ → SeatData → SeatData → Type 0
-EndsStore shared reg new now after = (before : SeatData) (steps : List Counted) (look : ℕ) → IsChanging shared reg steps look before now → IsStored reg new StoreDone before after × IsReady shared after
+EndsStore shared reg new now after = (before : SeatData) (steps : List Counted) (look : ℕ) → IsChanging shared reg steps look before now
+    → IsStored reg new StoreDone before after × IsReady shared after
 
 -- one exchange was tried: the store is done, or others changed the register, and its node was claimed anew
 abbrev pub HasTurnedOver : ObjectData → ℕ → ℕ → List ℕ → Option ℕ → SeatData → SeatData → Type 0

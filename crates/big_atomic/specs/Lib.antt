@@ -1,4 +1,5 @@
 pub mod Calling
 pub mod Calls
 pub mod Ready
+pub mod Seats
 pub mod Turns

@@ -23,7 +23,7 @@ pub(crate) fn stand_now(shared: &Shared, seat: &mut Seat, call: Call, reply: Rep
 }
 
 /// Ends the Back claim, and adds a stand at the end of what the seat has seen.
-pub(crate) fn answer_now(shared: &Shared, seat: &mut Seat, call: Call, reply: Reply)
+pub fn answer_now(shared: &Shared, seat: &mut Seat, call: Call, reply: Reply)
     requires ours { IsOf shared.now seat.old }
     requires may { MayAnswer (length seat.old.view.seen) call reply seat.old }
     ensures seat { seat.new ≡ stepped (stood_view (length seat.old.view.seen) call reply (cleared_view BACK seat.old.view)) seat.old }

@@ -34,8 +34,8 @@ pub(crate) fn claim_record(shared: &Shared, seat: &mut Seat, claim: Claim, reg: 
     Image { word, rec }
 }
 
-// Each further turn has a change of another caller to the register.
-fn claim_node(shared: &Shared, seat: &mut Seat, claim: Claim, reg: u32) -> u64
+/// Claims the node that a cell names. Each further turn has a change of another caller to the cell.
+pub fn claim_node(shared: &Shared, seat: &mut Seat, claim: Claim, reg: u32) -> u64
     requires ours { IsOf shared.now seat.old }
     requires there { reg < cells shared.now.plan }
     requires tells { Tells (claim_number claim) }

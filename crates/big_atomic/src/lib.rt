@@ -6,14 +6,24 @@ mod answers;
 mod changing;
 mod claiming;
 mod holds;
+mod laws;
 mod loads;
+mod seats;
 mod stores;
 mod swaps;
 #[cfg(test)]
 mod tests;
 
+pub use answering::answer_now;
 pub use answers::{Stored, Swap};
+pub use claiming::claim_node;
 pub use holds::{hold, look, release_hold};
+pub use laws::{fresh_is_ready, quiet_is_ready, ready_is_quiet};
 pub use loads::load;
+pub use seats::{join_all, split_all};
 pub use stores::store;
 pub use swaps::compare_and_swap;
+// All that a user needs beside the calls.
+pub use seat_history::{Rec, WIDTH};
+pub use step_rules::{Building, Closed, Counts, Place, Plan, Seat, Shared, TooLarge, build};
+pub use wire_ports::NoMemory;

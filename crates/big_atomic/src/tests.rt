@@ -8,7 +8,7 @@ ghost use Rattle.step_rules.specs.SeatData.{IsOf};
 mod threads;
 
 use crate::{Stored, Swap, compare_and_swap, hold, load, look, release_hold, store};
-use hazard_claims::{Claim, scan};
+use hazard_claims::scan;
 use seat_history::{Call, Plain, Rec, Reply, WIDTH};
 use std::alloc::Global;
 use std::process::Abort;
@@ -95,16 +95,16 @@ fn answer(rt: &impl Abort, shared: &Shared, seat: &mut Seat, call: Call) -> Repl
         }
         Call::Hold { reg } => {
             assert!(rt; reg < shared.plan().registers);
-            assert_eq!(rt; seat.claim_word(Claim::Hold.number()), 0);
+            assert!(rt; !seat.holds_record());
             hold(shared, seat, reg);
             Reply::Done
         }
         Call::Look => {
-            assert_ne!(rt; seat.claim_word(Claim::Hold.number()), 0);
+            assert!(rt; seat.holds_record());
             Reply::Words(look(shared, seat))
         }
         Call::Release => {
-            assert_ne!(rt; seat.claim_word(Claim::Hold.number()), 0);
+            assert!(rt; seat.holds_record());
             release_hold(shared, seat);
             Reply::Done
         }

@@ -1,15 +1,16 @@
 //! Four seats, each in a thread of its own.
 ghost use Rattle.std.specs.Prelude.{◌≡◌, ◌<◌, true, All, IfOk, length};
 ghost use Rattle.big_atomic.specs.Ready.{IsReady};
+ghost use Rattle.big_atomic.specs.Seats.{IsUnused};
 ghost use Rattle.step_rules.specs.SeatData.{IsOf};
 
-use super::{answer, closes, join, opened, plan, rec, split};
+use super::{answer, closes, opened, plan, rec};
+use crate::{Seat, Shared, join_all, split_all};
 use seat_history::{Call, Rec, Reply};
 use std::alloc::{AllocError, Global};
 use std::process::Abort;
 use std::test::Fail;
 use std::thread::{self, Threads};
-use step_rules::{Seat, Shared};
 
 const SEATS: u32 = 4;
 
@@ -83,64 +84,55 @@ fn count_up(rt: &impl Abort, shared: &Shared, seat: Seat) -> Counting
     Counting { seat, yes }
 }
 
-// Cuts a fresh seat, one part for each number.
-fn split_all(
-    rt: &impl Abort,
-    alloc: Global,
-    shared: &Shared,
-    first: Seat,
-) -> Result<Vec<Seat>, Fail>
-    requires ready { IsReady shared.now first }
-    ensures ready { IfOk result (λ seats. All (λ seat. IsReady shared.now seat) seats.items) }
-{
-    let mut first = first;
-    let mut seats = Vec::new(alloc);
-    for _ in 1..SEATS {
-        seats.push(split(rt, alloc, shared, &mut first)?)?;
-    }
-    seats.push(first)?;
-    Ok(seats)
-}
-
 fn count_all<R: Threads + Abort + Sync>(
     rt: &R,
     shared: &Shared,
     seats: Vec<Seat>,
 ) -> Result<Vec<Counting>, AllocError>
-    requires ready { All (λ seat. IsReady shared.now seat) seats.items }
+    requires unused { All (IsUnused shared.now) seats.items }
     ensures ours { IfOk result (λ all. All (λ (counting : Counting). IsOf shared.now counting.seat) all.items) }
 {
     let work = |seat: Seat| -> Counting
-        requires { IsReady shared.now seat }
+        requires { IsUnused shared.now seat }
         ensures { IsOf shared.entry.now result.seat }
     { count_up(rt, shared, seat) };
     thread::map_vec(rt, seats, &work)
 }
 
-// Takes all seats into the first one.
-fn join_all(rt: &impl Abort, shared: &Shared, first: Counting, rest: Vec<Counting>) -> Counting
-    requires ours { IsOf shared.now first.seat }
-    requires theirs { All (λ (counting : Counting). IsOf shared.now counting.seat) rest.items }
-    ensures ours { IsOf shared.now result.seat }
+// Joins all seats, and adds up how often they counted.
+fn joined(
+    rt: &impl Abort,
+    alloc: Global,
+    shared: &Shared,
+    all: Vec<Counting>,
+) -> Result<Counting, AllocError>
+    requires ours { All (λ (counting : Counting). IsOf shared.now counting.seat) all.items }
+    ensures ours { IfOk result (λ counting. IsOf shared.now counting.seat) }
 {
-    let Counting { mut seat, mut yes } = first;
-    let mut rest = rest;
-    while let Some(next) = rest.pop() {
-        join(rt, shared, &mut seat, next.seat);
-        yes = yes.wrapping_add(next.yes);
+    let mut all = all;
+    let mut yes = 0u64;
+    let mut seats = Vec::new(alloc);
+    while let Some(counting) = all.pop() {
+        assert!(rt; counting.seat.quiet());
+        yes = yes.wrapping_add(counting.yes);
+        seats.push(counting.seat)?;
     }
-    Counting { seat, yes }
+    let Some(mut seat) = seats.pop() else {
+        panic!(rt; "no seat is there");
+    };
+    assert!(rt; seat.is_first());
+    join_all(shared, &mut seat, seats);
+    Ok(Counting { seat, yes })
 }
 
 #[test]
 fn four_threads_count_together(rt: HostRuntime) -> Result<(), Fail> {
     let (shared, first) = opened(rt.alloc(), &plan(&rt, SEATS, 20, 2, 1_000))?;
-    let seats = split_all(&rt, rt.alloc(), &shared, first)?;
-    let mut all = count_all(&rt, &shared, seats)?;
-    let Some(first) = all.pop() else {
-        panic!(&rt; "no seat is there");
-    };
-    let Counting { seat, yes } = join_all(&rt, &shared, first, all);
+    assert!(rt; first.fresh());
+    let seats = split_all(rt.alloc(), &shared, first)?;
+    assert_eq!(rt; seats.len(), SEATS as usize);
+    let all = count_all(&rt, &shared, seats)?;
+    let Counting { seat, yes } = joined(&rt, rt.alloc(), &shared, all)?;
     // A try that fails has another thread's change in it: as many succeed as one thread makes.
     assert!(rt; yes >= u64::from(TRIES));
     closes(&rt, shared, seat, yes);

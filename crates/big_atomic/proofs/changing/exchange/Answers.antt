@@ -12,14 +12,14 @@ returns-then-found-word-2-clause-lost c _ = lost_first c.law.ensures.sound c.law
 
 pub returns-clause-won : goal.returns-clause-won
 returns-clause-won c same = won_second c.law.ensures.sound c.law-2.ensures.sound c.if-found-word.false c.if-found-word-2.false
-    (c.backup_exchange-found.ensures.lost c.if-found-word.false) c.args.call c.backup_exchange-again.new.seat c.law-3.ensures.sound
+    (c.backup_exchange-found.ensures.lost c.if-found-word.false) c.law-3.ensures.sound
     (c.backup_exchange-again.ensures.won (eqb-true c.backup_exchange-again.result c.backup_exchange-found.result same))
 
 pub returns-clause-lost : goal.returns-clause-lost
 returns-clause-lost c other =
     let ne : c.backup_exchange-again.result ≡ c.backup_exchange-found.result → ⊥ = eqb-false c.backup_exchange-again.result c.backup_exchange-found.result other in
     lost_second c.law.ensures.sound c.law-2.ensures.sound c.if-found-word.false c.if-found-word-2.false
-    (c.backup_exchange-found.ensures.lost c.if-found-word.false) c.args.call c.backup_exchange-again.result c.backup_exchange-again.new.seat c.requires.may c.requires.found c.law-3.ensures.sound ne
+    (c.backup_exchange-found.ensures.lost c.if-found-word.false) c.requires.may c.requires.found c.law-3.ensures.sound ne
     (c.backup_exchange-again.ensures.lost ne)
 
 -- the same nodes are held at the second try

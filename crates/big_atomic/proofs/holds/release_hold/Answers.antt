@@ -1,14 +1,13 @@
-use Rattle.big_atomic.proofs.Reading.{may_release, release_ready, released}
+use Rattle.big_atomic.proofs.Reading.{HasReleased, may_release, release_ready, released}
 use Rattle.big_atomic.proofs.holds.release_hold.Goals as goal
 
 pub stand_now-requires-clause-may : goal.stand_now-requires-clause-may
 stand_now-requires-clause-may c = may_release {before = c.args.seat.now} (record { cleared = c.release.ensures.released; first = c.law.ensures.sound; last = c.law-2.ensures.sound })
 
-pub returns-clause-ready : goal.returns-clause-ready
-returns-clause-ready c =
-    release_ready (record { cleared = c.release.ensures.released; first = c.law.ensures.sound; last = c.law-2.ensures.sound })
-    c.args.shared.now c.stand_now.new.seat c.requires.ready c.stand_now.ensures.seat
-
-pub returns-clause-released : goal.returns-clause-released
-returns-clause-released c = released (record { cleared = c.release.ensures.released; first = c.law.ensures.sound; last = c.law-2.ensures.sound })
-    c.stand_now.new.seat c.stand_now.ensures.seat c.stand_now.ensures.law
+pub returns : goal.returns
+returns c =
+    let r : HasReleased c.args.seat.now c.release.new.seat = record { cleared = c.release.ensures.released; first = c.law.ensures.sound; last = c.law-2.ensures.sound } in
+    record {
+      ready = release_ready r c.args.shared.now c.stand_now.new.seat c.requires.ready c.stand_now.ensures.seat;
+      released = released r c.stand_now.new.seat c.stand_now.ensures.seat c.stand_now.ensures.law;
+    }

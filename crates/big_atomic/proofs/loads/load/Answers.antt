@@ -9,10 +9,10 @@ answer_now-requires-clause-ours c = goes_of (c.claim_record-found.ensures.claime
 pub answer_now-requires-clause-may : goal.answer_now-requires-clause-may
 answer_now-requires-clause-may c = may_answer (load_ends (has_read c.law.ensures c.requires.ready c.requires.there c.claim_record-found.ensures.claimed))
 
-pub returns-clause-ready : goal.returns-clause-ready
-returns-clause-ready c = load_ready (has_read c.law.ensures c.requires.ready c.requires.there c.claim_record-found.ensures.claimed) refl
-    c.args.shared.now c.answer_now.new.seat c.requires.ready c.answer_now.ensures.seat
-
-pub returns-clause-loaded : goal.returns-clause-loaded
-returns-clause-loaded c = loaded (has_read c.law.ensures c.requires.ready c.requires.there c.claim_record-found.ensures.claimed) refl
-    c.answer_now.new.seat c.answer_now.ensures.seat c.answer_now.ensures.law
+pub returns : goal.returns
+returns c =
+    let r = has_read c.law.ensures c.requires.ready c.requires.there c.claim_record-found.ensures.claimed in
+    record {
+      ready = load_ready r refl c.args.shared.now c.answer_now.new.seat c.requires.ready c.answer_now.ensures.seat;
+      loaded = loaded r refl c.answer_now.new.seat c.answer_now.ensures.seat c.answer_now.ensures.law;
+    }

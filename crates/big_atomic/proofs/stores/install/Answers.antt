@@ -1,36 +1,25 @@
-use Rattle.std.proofs.Common.{◌≡◌, ◌∙◌, ◌++◌, ◌*◌, ◌-◌, ◌<◌, ℕ, List, [], Some, length, refl, subst, ap, arith}
+use Rattle.std.proofs.Common.{◌≡◌, ◌∙◌, ◌++◌, ◌*◌, ◌-◌, ◌<◌, [], length, refl, subst, ap, arith}
 use Rattle.big_atomic.proofs.Goings.{goes_none, goes_then}
 use Rattle.big_atomic.proofs.Paid.{scan_loads-append}
 use Rattle.big_atomic.proofs.Trying.{changing_then}
-use Rattle.big_atomic.specs.Calling.{Goes, IsChanging}
-use Rattle.big_atomic.specs.Turns.{scan_loads}
-use Rattle.step_rules.specs.Claims.{HOLD, WALK}
-use Rattle.step_rules.specs.SeatData.{ObjectData, SeatData}
-use Rattle.step_rules.specs.Views.{claim_of}
 use Rattle.step_rules.specs.declared.plan.Plan.{Plan}
-use Rattle.step_rules.specs.declared.view.Counted.{Counted}
 use Rattle.step_rules.specs.declared.view.View.{View}
 use Rattle.big_atomic.proofs.stores.install.Goals as goal
 
 pub turns-init : goal.turns-init
 turns-init c = record { works = ([], goes_none c.args.reg c.args.seat.now c.requires.working.1.sound, refl, refl, refl, c.requires.working) }
 
--- the call so far, with the turns that were made
-so_far : (shared : ObjectData) (reg look : ℕ) (steps turns : List Counted) (before start now : SeatData) → IsChanging shared reg steps look before start → Goes reg (Some (length start.view.seen)) turns start now → scan_loads turns ≡ 0
-    → claim_of HOLD now.view ≡ claim_of HOLD start.view → claim_of WALK now.view ≡ claim_of WALK start.view → IsChanging shared reg (steps ++ turns) look before now
-so_far shared reg look steps turns before start now c = changing_then c
-
 pub replace_once-requires-clause-past : goal.replace_once-requires-clause-past
 replace_once-requires-clause-past c =
     let past = c.requires.past in
     let w = c.turns.invariant.works in
-    (past.0, past.1 ++ w.0, past.2, so_far c.args.shared.now c.args.reg past.2 past.1 w.0 past.0 c.args.seat.now c.turns.seat past.3 w.1 w.2 w.3 w.4)
+    (past.0, past.1 ++ w.0, past.2, changing_then past.3 w.1 w.2 w.3 w.4)
 
 pub returns-in-None : goal.returns-in-None
 returns-in-None c = record {
   done = λ before steps look changing.
       let w = c.turns.invariant.works in
-      c.in-None.ensures.turned before (steps ++ w.0) look (so_far c.args.shared.now c.args.reg look steps w.0 before c.args.seat.now c.turns.seat changing w.1 w.2 w.3 w.4);
+      c.in-None.ensures.turned before (steps ++ w.0) look (changing_then changing w.1 w.2 w.3 w.4);
 }
 
 pub turns-preserved : goal.turns-preserved
@@ -54,4 +43,5 @@ turns-smaller c =
     let longer = t.6 in
     let within = t.5.1.sound.within in
     let plan : c.replace_once.new.seat.view.plan ≡ c.turns.seat.view.plan = ap (λ (z : View). z.plan) t.1.only in
-    subst (λ (p : Plan). c.replace_once.new.seat.view.plan.seats * c.replace_once.new.seat.view.plan.changes - length c.replace_once.new.seat.view.seen < p.seats * p.changes - length c.turns.seat.view.seen) plan (omega arith)
+    let now : View = c.replace_once.new.seat.view in
+    subst (λ (p : Plan). now.plan.seats * now.plan.changes - length now.seen < p.seats * p.changes - length c.turns.seat.view.seen) plan (omega arith)

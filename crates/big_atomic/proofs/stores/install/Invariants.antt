@@ -9,7 +9,8 @@ use Rattle.big_atomic.proofs.stores.install.Given as goal
 -- the node is still held, and the node of the word is claimed
 abbrev pub invariant-turns : goal.invariant-turns
 invariant-turns l = record {
-  works : (steps : List Counted) × Goes l.reg (Some (length l.fn.seat.view.seen)) steps l.fn.seat l.seat × (scan_loads steps ≡ 0) × (claim_of HOLD l.seat.view ≡ claim_of HOLD l.fn.seat.view) × (claim_of WALK l.seat.view ≡ claim_of WALK l.fn.seat.view)
+  works : (steps : List Counted) × Goes l.reg (Some (length l.fn.seat.view.seen)) steps l.fn.seat l.seat
+      × (scan_loads steps ≡ 0) × (claim_of HOLD l.seat.view ≡ claim_of HOLD l.fn.seat.view) × (claim_of WALK l.seat.view ≡ claim_of WALK l.fn.seat.view)
       × ((rec : List ℕ) × IsWorking l.shared l.reg l.seen l.node rec l.new l.seat);
 }
 

@@ -24,7 +24,8 @@ pub release-requires : goal.release-requires
 release-requires c = record { ours = turn_ours (lost_turn c.requires.working.1 (c.if-exchange.ensures.lost refl) c.claim_record-found.ensures.claimed c.law-2.ensures) }
 
 pub put_back-requires-clause-ours : goal.put_back-requires-clause-ours
-put_back-requires-clause-ours c = cleared_ours c.release.ensures.released (turn_ours (lost_turn c.requires.working.1 (c.if-exchange.ensures.lost refl) c.claim_record-found.ensures.claimed c.law-2.ensures))
+put_back-requires-clause-ours c = cleared_ours c.release.ensures.released
+    (turn_ours (lost_turn c.requires.working.1 (c.if-exchange.ensures.lost refl) c.claim_record-found.ensures.claimed c.law-2.ensures))
 
 pub put_back-requires-clause-unannounced : goal.put_back-requires-clause-unannounced
 put_back-requires-clause-unannounced c y at on =

@@ -55,5 +55,6 @@ returns-in-Same c =
 
 pub returns-in-Other : goal.returns-in-Other
 returns-in-Other c =
-    let s = ends_other {old = c.args.old} {new = c.args.new} (begins c.requires.ready c.requires.there c.requires.left c.law.ensures) c.in-Other.ensures.tried c.refuse.ensures.seat c.refuse.ensures.law in
+    let began = begins c.requires.ready c.requires.there c.requires.left c.law.ensures in
+    let s = ends_other {old = c.args.old} {new = c.args.new} began c.in-Other.ensures.tried c.refuse.ensures.seat c.refuse.ensures.law in
     record { ready = s.1; swapped = s.0 }

@@ -8,5 +8,7 @@ use Rattle.step_rules.specs.Steps.{MayAnswer}
 use Rattle.big_atomic.proofs.swaps.refuse.Goals as goal
 
 pub stand-requires-clause-may : goal.stand-requires-clause-may
-stand-requires-clause-may g c = subst (λ (z : SeatData). MayAnswer (refused_at g.P.Place.place (Swap c.args.reg c.args.old c.args.new) z.view) (Swap c.args.reg c.args.old c.args.new) No z) (sym c.release.ensures.released)
-    (may_ended (refused_at g.P.Place.place (Swap c.args.reg c.args.old c.args.new) c.args.seat.now.view) (Swap c.args.reg c.args.old c.args.new) No c.args.seat.now c.law.ensures.sound c.requires.may)
+stand-requires-clause-may g c =
+    let call = Swap c.args.reg c.args.old c.args.new in
+    subst (λ (z : SeatData). MayAnswer (refused_at g.P.Place.place call z.view) call No z) (sym c.release.ensures.released)
+    (may_ended (refused_at g.P.Place.place call c.args.seat.now.view) call No c.args.seat.now c.law.ensures.sound c.requires.may)
