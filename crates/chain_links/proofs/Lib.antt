@@ -1,0 +1,3 @@
+pub mod Passing
+mod Seeking
+mod Ways
