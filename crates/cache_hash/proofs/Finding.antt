@@ -1,0 +1,335 @@
+-- A find as far as it has come, and its end.
+use Rattle.std.proofs.Common.{◌≡◌, ◌≢◌, ◌∙◌, ℕ, ◌+◌, ◌*◌, ◌-◌, ◌/◌, ◌^◌, ◌<◌, List, [], ◌∷◌, ◌++◌, Option, Some, None, length, take, refl, sym, ap, subst, arith, inl, inr}
+use Rattle.std.proofs.lemmas.List.{get_or-set_other, get_or-set_same}
+use Rattle.std.specs.Option.{option_map_or}
+use Rattle.big_atomic.proofs.Answered.{MayEnd, answered_now, ended_back, goes_of, hold_stays, may_answer, ready_now, right_at}
+use Rattle.big_atomic.proofs.Claimed.{looks_then, lost_longer, stepped_then}
+use Rattle.big_atomic.proofs.Goings.{goes_still, goes_then, looked_then}
+use Rattle.big_atomic.proofs.Paid.{exchanges-append, scan_loads-append}
+use Rattle.big_atomic.specs.Calling.{AreLooks, Goes, HasClaim, HasClaimed, HasSeen, IsLooked, OnlySteps}
+use Rattle.big_atomic.specs.Calls.{IsQuiet}
+use Rattle.big_atomic.specs.Ready.{IsReady}
+use Rattle.cache_hash.proofs.Walking.{Lost, Part, Way, come_way, moved_lost}
+use Rattle.cache_hash.specs.Calls.{IsFound, find_reply, value_at as value_here}
+use Rattle.chain_links.proofs.Passing.{back_claim}
+use Rattle.chain_links.specs.Walking.{HasBack, HasCome, IsWalked}
+use Rattle.chain_links.specs.declared.answers.Walk.TheVariants.{Found, End, Moved}
+use Rattle.hazard_claims.specs.Scanning.{ClearsWalk}
+use Rattle.seat_history.specs.Contents.{Contents}
+use Rattle.seat_history.specs.History.{state_at}
+use Rattle.seat_history.specs.Key.{key_number}
+use Rattle.seat_history.specs.declared.call.Call.TheVariants.{Find}
+use Rattle.seat_history.specs.declared.entry.Entry.{Entry}
+use Rattle.seat_history.specs.declared.key.KeyWords.{KeyWords}
+use Rattle.seat_history.specs.declared.reply.Reply.TheVariants.{Absent, Full, Val}
+use Rattle.step_rules.proofs.BucketOf.{key_there}
+use Rattle.step_rules.proofs.RecordsAt.{records_since}
+use Rattle.step_rules.proofs.RecordsTell.{value_at}
+use Rattle.step_rules.proofs.Trails.{longer_seen}
+use Rattle.step_rules.specs.Claims.{BACK, HOLD, On, OWN, WALK}
+use Rattle.step_rules.specs.History.{bucket_of, key_cell}
+use Rattle.step_rules.specs.Layout.{cells}
+use Rattle.step_rules.specs.Lawful.{IsReply, held_by}
+use Rattle.step_rules.specs.Records.{records_at, records_of, value_in}
+use Rattle.step_rules.specs.SeatData.{IsOf, IsSeat, ObjectData, SeatData}
+use Rattle.step_rules.specs.Sound.{Sound}
+use Rattle.step_rules.specs.Steps.{MayAnswer, stepped}
+use Rattle.step_rules.specs.Views.{claim_of, claimed_records, cleared_view, counted, number, silent, stock, stood_view}
+use Rattle.step_rules.specs.declared.plan.Plan.{Plan}
+use Rattle.step_rules.specs.declared.view.Claim.{Claim}
+use Rattle.step_rules.specs.declared.view.Counted.{Counted}
+use Rattle.step_rules.specs.declared.view.Kind.TheVariants.{ClaimClear}
+use Rattle.step_rules.specs.declared.view.Stand.{Stand}
+use Rattle.step_rules.specs.declared.view.View.{View}
+
+-- looks and loads of a call on the cell, from its first look on
+pub record Finding (cell : ℕ) (before now : SeatData) : Type 0 where
+  pub steps : List Counted
+  pub look : ℕ
+  pub goes : (found : Option ℕ) → Goes cell found steps before now
+  pub looked : IsLooked cell steps look before now
+  pub looks : AreLooks steps
+  pub same : now ≡ stepped now.view before
+  pub retired : now.view.retired ≡ before.view.retired
+  pub hold : claim_of HOLD now.view ≡ claim_of HOLD before.view
+  pub own : claim_of OWN now.view ≡ claim_of OWN before.view
+
+pub finding_first : (cell word : ℕ) (before now : SeatData) → HasSeen BACK cell word before now → Finding cell before now
+finding_first cell word before now s = record {
+  steps = s.steps;
+  look = s.look;
+  goes = s.goes;
+  looked = s.looked;
+  looks = s.looks;
+  same = s.stays.same;
+  retired = s.stays.retired;
+  hold = s.stays.others HOLD (λ e. absurd (omega arith));
+  own = s.stays.others OWN (λ e. absurd (omega arith));
+}
+
+pub finding_on : (cell : ℕ) (b : List Counted) (before mid now : SeatData) → Finding cell before mid → Part cell b mid now → Finding cell before now
+finding_on cell b before mid now f p = record {
+  steps = f.steps ++ b;
+  look = f.look;
+  goes = λ found. goes_then (f.goes found) p.goes;
+  looked = looked_then (f.goes None) f.looked p.goes;
+  looks = looks_then f.steps b f.looks p.looks;
+  same = stepped_then before mid now f.same p.same;
+  retired = p.retired ∙ f.retired;
+  hold = p.hold ∙ f.hold;
+  own = p.own ∙ f.own;
+}
+
+seen_part : (cell word : ℕ) (mid now : SeatData) → (s : HasSeen BACK cell word mid now) → Part cell s.steps mid now
+seen_part cell word mid now s = record {
+  goes = s.goes (Some (length mid.view.seen));
+  looks = s.looks;
+  same = s.stays.same;
+  retired = s.stays.retired;
+  hold = s.stays.others HOLD (λ e. absurd (omega arith));
+  own = s.stays.others OWN (λ e. absurd (omega arith));
+}
+
+pub finding_again : (cell word : ℕ) (before mid now : SeatData) → Finding cell before mid → HasSeen BACK cell word mid now → Finding cell before now
+finding_again cell word before mid now f s = finding_on cell s.steps before mid now f (seen_part cell word mid now s)
+
+pub has_back : (cell word : ℕ) (v : View) → HasClaim BACK cell word v → HasBack cell v
+has_back cell word v c = record { node = word / 2; stands = c.stands; cell_is = c.cell }
+
+-- Back's node is that of the word
+same_node : (cell word node : ℕ) (v : View) → HasClaim BACK cell word v → On (claim_of BACK v) node → word / 2 ≡ 2 * node / 2
+same_node cell word node v c on = omega (arith, c.stands.at, on.at)
+
+-- the Walk claim's word is cleared
+pub finding_cleared : (cell : ℕ) (before mid now : SeatData) → Sound mid.view → Sound now.view → Finding cell before mid → ClearsWalk mid now
+    → Finding cell before now × ((claim_of WALK now.view).word ≡ 0) × (now.view.seen ≡ mid.view.seen)
+finding_cleared cell before mid now sound last f (inl q) =
+    (subst (λ (z : SeatData). Finding cell before z) (sym q.0) f, ap (λ (z : SeatData). (claim_of WALK z.view).word) q.0 ∙ q.1, ap (λ (z : SeatData). z.view.seen) q.0)
+finding_cleared cell before mid now sound last f (inr q) =
+    let step : List Counted = counted (ClaimClear WALK) 0 (length mid.view.seen) ∷ [] in
+    let view : now.view ≡ cleared_view WALK mid.view = ap (λ (z : SeatData). z.view) q in (
+      finding_on cell step before mid now f (record {
+        goes = goes_still cell step mid now (subst (λ (z : View). OnlySteps mid.view z) (sym view) refl) (ap (λ (z : View). z.trail) view) (ap (λ (z : View). z.seen) view) refl
+            (ap (λ (z : SeatData). z.object) q) (ap (λ (z : SeatData). z.first) q) (ap stock view) last;
+        looks = record { none_exchanged = refl; none_scanned = refl };
+        same = q ∙ ap (λ (z : SeatData). stepped z.view mid) (sym q);
+        retired = ap (λ (z : View). z.retired) view;
+        hold = ap (λ (z : View). claim_of HOLD z) view ∙ get_or-set_other mid.view.claims WALK HOLD (silent 0) (silent 0) (λ e. absurd (omega arith));
+        own = ap (λ (z : View). claim_of OWN z) view ∙ get_or-set_other mid.view.claims WALK OWN (silent 0) (silent 0) (λ e. absurd (omega arith));
+      }),
+      ap (λ (z : View). (claim_of WALK z).word) view
+          ∙ ap (λ (x : Claim). x.word) (get_or-set_same mid.view.claims WALK (silent 0) (silent 0) (omega (arith, sound.claims.four))),
+      ap (λ (z : View). z.seen) view,
+    )
+
+-- what the claimed chain has for the key is the key's value at the end of what is seen
+chain_value : (cell : ℕ) (key : KeyWords) (seen : ℕ) (mid now : SeatData) (found : Option (List ℕ)) → HasBack cell mid.view
+    → (w : Way cell seen mid now) → cell ≡ key_cell now.view.plan (key_number key)
+    → value_in (claimed_records mid.view) (key_number key) ≡ found → value_here now.view (length now.view.seen) key ≡ found
+chain_value cell key seen mid now found b w cell_is value =
+    let n : ℕ = key_number key in
+    let v : View = now.view in
+    let sound : Sound v = w.part.goes.sound in
+    let x : Claim = claim_of BACK v in
+    let back : HasBack cell v = record { node = b.node; stands = subst (λ (y : Claim). On y b.node) (sym w.back) b.stands; cell_is = ap (λ (y : Claim). y.cell) w.back ∙ b.cell_is } in
+    let told = back_claim cell v sound back in
+    let records : records_at v.plan v.seen cell ≡ claimed_records mid.view =
+    records_since v.plan v.seen x.at cell w.calm
+    ∙ (ap (λ k. records_at v.plan (take x.at v.seen) k) (sym back.cell_is) ∙ (sym told.records ∙ ap (λ (y : Claim). records_of y.pages) w.back)) in
+    sym (value_at v.plan v.seen n (λ i e at. (sound.history.each i e at).there))
+    ∙ (ap (λ k. value_in (records_at v.plan v.seen k) n) (sym cell_is) ∙ (ap (λ rs. value_in rs n) records ∙ value))
+
+-- a walk answered: more was looked at, and the key's value is this
+pub record Walked (cell : ℕ) (key : KeyWords) (found : Option (List ℕ)) (before now : SeatData) : Type 0 where
+  pub finding : Finding cell before now
+  pub value : value_here now.view (length now.view.seen) key ≡ found
+
+module _ (cell word : ℕ) (key : KeyWords) (before mid now : SeatData) (f : Finding cell before mid)
+    (claim : HasClaim BACK cell word mid.view) (cell_is : cell ≡ key_cell before.view.plan (key_number key)) where
+  b : HasBack cell mid.view
+  b = has_back cell word mid.view claim
+
+  walked : (n node : ℕ) (found : Option (List ℕ)) → On (claim_of BACK mid.view) node → HasCome cell (2 * node) n mid now → value_in (claimed_records mid.view) (key_number key) ≡ found
+      → Walked cell key found before now
+  walked n node found on come value =
+      let w = come_way cell (2 * node) word n mid now claim (same_node cell word node mid.view claim on) b come in
+      let g : Goes cell None f.steps before mid = f.goes None in
+      let plan : now.view.plan ≡ before.view.plan = ap (λ (z : View). z.plan) w.part.goes.only ∙ ap (λ (z : View). z.plan) g.only in record {
+        finding = finding_on cell w.steps before mid now f w.part;
+        value = chain_value cell key (2 * node) mid now found b w (cell_is ∙ ap (λ (p : Plan). key_cell p (key_number key)) (sym plan)) value;
+      }
+
+  pub walked_found : (at : ℕ) (val : List ℕ) → IsWalked cell key (Found at val) mid now → Walked cell key (Some val) before now
+  walked_found at val k = walked at k.node (Some val) k.back k.says.0 k.says.2
+
+  pub walked_end : (count : ℕ) → IsWalked cell key (End count) mid now → Walked cell key None before now
+  walked_end count k = walked (count - 1) k.node None k.back k.says.0 k.says.2
+
+  pub walked_moved : IsWalked cell key Moved mid now → Lost cell mid now
+  walked_moved k = moved_lost cell (2 * k.node) word mid now claim (same_node cell word k.node mid.view claim k.back) b k.says
+
+pub longer : (cell : ℕ) (mid now : SeatData) → Lost cell mid now → length mid.view.seen < length now.view.seen
+longer cell mid now l = lost_longer cell (length mid.view.seen) now.view.plan now.view.seen l.changed
+
+reply_is : (p : Plan) (stock : ℕ) (contents : Contents) (log : List Entry) (held : Option (List ℕ)) (key : KeyWords) (found : Option (List ℕ)) → contents.values (key_number key) ≡ found
+    → IsReply p stock contents log held (Find key) (find_reply found)
+reply_is p stock contents log held key None e = ap (λ (o : Option (List ℕ)). option_map_or Val o Absent) e
+reply_is p stock contents log held key (Some val) e = ap (λ (o : Option (List ℕ)). option_map_or Val o Absent) e
+
+never_full : (found : Option (List ℕ)) (need free : ℕ) → find_reply found ≢ Full need free
+never_full None need free e = absurd cc
+never_full (Some val) need free e = absurd cc
+
+-- a find may be answered
+pub record MayFind (key : KeyWords) (found : Option (List ℕ)) (before now : SeatData) : Type 0 where
+  pub first : IsSeat before
+  pub idle : before.holding ≡ []
+  pub some : 0 < before.view.plan.buckets
+  pub finding : Finding (key_cell before.view.plan (key_number key)) before now
+  pub value : value_here now.view (length now.view.seen) key ≡ found
+  pub walk : (claim_of WALK now.view).word ≡ 0
+
+module _ {key : KeyWords} {found : Option (List ℕ)} {before now : SeatData} (m : MayFind key found before now) where
+  abbrev k : ℕ
+  k = key_cell before.view.plan (key_number key)
+
+  abbrev f : Finding k before now
+  f = m.finding
+
+  goes : Goes k None f.steps before now
+  goes = f.goes None
+
+  plan : now.view.plan ≡ before.view.plan
+  plan = ap (λ (z : View). z.plan) goes.only
+
+  pub find_ends : MayEnd k f.look (length now.view.seen) (Find key) (find_reply found) f.steps before now
+  find_ends = record {
+    goes = goes;
+    looked = f.looked;
+    first = m.first;
+    there = subst (λ (p : Plan). 0 < p.buckets) (sym plan) m.some;
+    on = ap (λ (p : Plan). key_cell p (key_number key)) plan;
+    late = f.looked.upto;
+    right = right_at now.view (length now.view.seen) (Find key) (find_reply found) (omega arith)
+        (reply_is now.view.plan (stock now.view) (state_at now.view.seen (length now.view.seen)) (take (length now.view.seen) now.view.seen)
+        (held_by now.view.seen (number now.view) now.view.stands) key found m.value)
+        refl;
+    idle = m.idle;
+    idle_now = ap (λ (z : SeatData). z.holding) f.same ∙ m.idle;
+    full = λ need free e. absurd (never_full found need free e);
+  }
+
+  pub may_find : MayAnswer (length now.view.seen) (Find key) (find_reply found) now
+  may_find = may_answer find_ends
+
+  abbrev FindStood : SeatData → Type 0
+  FindStood after = after ≡ stepped (stood_view (length now.view.seen) (Find key) (find_reply found) (cleared_view BACK now.view)) now
+
+  pub found_now : (after : SeatData) → FindStood after → IsSeat after → IsFound key found before after
+  found_now after is last =
+      let e = ended_back now goes.sound in
+      let a = answered_now after find_ends e is last in record {
+        answered = a.answered;
+        there = ap (λ (s : Stand). value_here after.view s.place key) a.stand_is ∙ (ap (λ (z : SeatData). value_here z.view (length now.view.seen) key) is ∙ m.value);
+        quiet = subst (λ (l : List Counted). IsQuiet l before after) (sym a.steps_are) (record {
+          free = ap (λ (z : SeatData). z.free) is ∙ ap (λ (z : SeatData). z.free) f.same;
+          retired = ap (λ (z : SeatData). z.view.retired) is ∙ f.retired;
+          none_exchanged = omega (arith, exchanges-append f.steps (counted (ClaimClear BACK) 0 (length now.view.seen) ∷ []), f.looks.none_exchanged);
+          none_scanned = omega (arith, scan_loads-append f.steps (counted (ClaimClear BACK) 0 (length now.view.seen) ∷ []), f.looks.none_scanned);
+        });
+        hold = hold_stays after find_ends e is f.hold (λ contents held. refl);
+      }
+
+  pub find_ready : (shared : ObjectData) (after : SeatData) → IsReady shared before → FindStood after → IsReady shared after
+  find_ready shared after ready is = ready_now shared after ready find_ends is m.walk (ap (λ (x : Claim). x.word) f.own ∙ ready.own)
+      (hold_stays after find_ends (ended_back now goes.sound) is f.hold (λ contents held. refl))
+
+-- a find that began with a ready seat
+pub record Begun (shared : ObjectData) (key : KeyWords) (cell : ℕ) (before : SeatData) : Type 0 where
+  pub ready : IsReady shared before
+  pub law : IsSeat before
+  pub some : 0 < shared.plan.buckets
+  pub cell_is : cell ≡ key_cell shared.plan (key_number key)
+
+-- it has claimed the cell's node
+pub record Claimed (shared : ObjectData) (key : KeyWords) (cell : ℕ) (before now : SeatData) : Type 0 where
+  pub begun : Begun shared key cell before
+  pub finding : Finding cell before now
+  pub word : ℕ
+  pub claim : HasClaim BACK cell word now.view
+
+pub of_finding : {shared : ObjectData} {cell : ℕ} {before now : SeatData} → IsReady shared before → Finding cell before now → IsOf shared now
+of_finding ready f = goes_of (f.goes None) ready.ours
+
+pub claimed_first : (shared : ObjectData) (key : KeyWords) (cell word : ℕ) (before now : SeatData)
+    → Begun shared key cell before → HasClaimed BACK cell word before now → Claimed shared key cell before now
+claimed_first shared key cell word before now b h = record { begun = b; finding = finding_first cell word before now h.0; word = word; claim = h.1 }
+
+module _ {shared : ObjectData} {key : KeyWords} {cell : ℕ} {before mid : SeatData} (c : Claimed shared key cell before mid) where
+  own_cell : cell ≡ key_cell before.view.plan (key_number key)
+  own_cell = c.begun.cell_is ∙ ap (λ (p : Plan). key_cell p (key_number key)) (sym c.begun.ready.ours.plan)
+
+  pub inside : cell < cells shared.plan
+  inside = subst (λ j. j < cells shared.plan) (sym c.begun.cell_is) (key_there shared.plan (key_number key) c.begun.some)
+
+  pub back_there : HasBack cell mid.view
+  back_there = has_back cell c.word mid.view c.claim
+
+  pub finds_value : (at : ℕ) (val : List ℕ) (now : SeatData) → IsWalked cell key (Found at val) mid now → Walked cell key (Some val) before now
+  finds_value at val now w = walked_found cell c.word key before mid now c.finding c.claim own_cell at val w
+
+  pub finds_none : (count : ℕ) (now : SeatData) → IsWalked cell key (End count) mid now → Walked cell key None before now
+  finds_none count now w = walked_end cell c.word key before mid now c.finding c.claim own_cell count w
+
+  pub loses : (now : SeatData) → IsWalked cell key Moved mid now → Lost cell mid now
+  loses now w = walked_moved cell c.word key before mid now c.finding c.claim own_cell w
+
+  pub lost_finding : (now : SeatData) → Lost cell mid now → Finding cell before now
+  lost_finding now l = finding_on cell l.steps before mid now c.finding l.part
+
+  pub claimed_again : (word : ℕ) (lost now : SeatData) → Lost cell mid lost → HasClaimed BACK cell word lost now → Claimed shared key cell before now
+  claimed_again word lost now l h = record { begun = c.begun; finding = finding_again cell word before lost now (lost_finding lost l) h.0; word = word; claim = h.1 }
+
+  pub fewer : (word : ℕ) (lost now : SeatData) → Lost cell mid lost → HasClaimed BACK cell word lost now
+      → now.view.plan.seats * now.view.plan.changes - length now.view.seen < mid.view.plan.seats * mid.view.plan.changes - length mid.view.seen
+  fewer word lost now l h =
+      let g : Goes cell None h.0.steps lost now = h.0.goes None in
+      let further = longer_seen lost.view.seen now.view.seen g.seen in
+      let more = longer cell mid lost l in
+      let within = g.sound.within in
+      let plan : now.view.plan ≡ mid.view.plan = ap (λ (z : View). z.plan) g.only ∙ ap (λ (z : View). z.plan) l.part.goes.only in
+      let seats = ap (λ (p : Plan). p.seats * p.changes) plan in omega arith
+
+  pub may : (found : Option (List ℕ)) (walked cleared : SeatData) → Walked cell key found before walked → ClearsWalk walked cleared → Sound cleared.view → MayFind key found before cleared
+  may found walked cleared w clears sound =
+      let g : Goes cell None w.finding.steps before walked = w.finding.goes None in
+      let f = finding_cleared cell before walked cleared g.sound sound w.finding clears in record {
+        first = c.begun.law;
+        idle = c.begun.ready.idle;
+        some = subst (λ (p : Plan). 0 < p.buckets) (sym c.begun.ready.ours.plan) c.begun.some;
+        finding = subst (λ j. Finding j before cleared) own_cell f.0;
+        value = ap (λ (l : List Entry). (state_at l (length l)).values (key_number key)) f.2 ∙ w.value;
+        walk = f.1;
+      }
+
+pub of_may : {shared : ObjectData} {key : KeyWords} {found : Option (List ℕ)} {before now : SeatData} → IsReady shared before → MayFind key found before now → IsOf shared now
+of_may ready m = of_finding ready m.finding
+
+-- the cell as the code counts it
+cell_counted : (key : KeyWords) (all p : Plan) (index : ℕ) → p ≡ all → index ≡ bucket_of p.buckets (key_number key) → p.registers + index ≡ key_cell all (key_number key)
+cell_counted key all p index same is = ap (λ n. p.registers + n) is ∙ ap (λ (q : Plan). key_cell q (key_number key)) same
+
+pub begins_inside : (key : KeyWords) (all p : Plan) (index : ℕ) → p ≡ all → index ≡ bucket_of p.buckets (key_number key) → 0 < all.buckets → p.registers + index < cells all
+begins_inside key all p index same is some = subst (λ j. j < cells all) (sym (cell_counted key all p index same is)) (key_there all (key_number key) some)
+
+pub begins : {shared : ObjectData} {before : SeatData} (key : KeyWords) (p : Plan) (index : ℕ) → IsReady shared before → IsSeat before → 0 < shared.plan.buckets → p ≡ shared.plan
+    → index ≡ bucket_of p.buckets (key_number key) → Begun shared key (p.registers + index) before
+begins {shared = shared} key p index ready law some same is = record { ready = ready; law = law; some = some; cell_is = cell_counted key shared.plan p index same is }
+
+pub begins_low : (key : KeyWords) (all p : Plan) (index : ℕ) (v : View) → Sound v → v.plan ≡ all → p ≡ all → index ≡ bucket_of p.buckets (key_number key) → 0 < all.buckets
+    → p.registers + index < 2 ^ 32
+begins_low key all p index v sound of same is some =
+    let low = begins_inside key all p index same is some in
+    let r = sound.plan.registers in
+    let b = sound.plan.buckets in
+    let both = ap (λ (q : Plan). cells q) of in omega arith

@@ -1,0 +1,206 @@
+-- The steps of a walk as those of a call.
+use Rattle.std.proofs.Common.{◌≡◌, ◌∙◌, ℕ, ◌+◌, ◌/◌, suc, zero, not, eq-eqb, List, [], ◌∷◌, ◌++◌, Some, length, drop, refl, sym, ap, subst, arith}
+use Rattle.std.proofs.Math.ListN.{drop_of_length-le}
+use Rattle.std.proofs.lemmas.List.{get_or-set_other}
+use Rattle.big_atomic.proofs.Claimed.{loads_still, loads_unscanned, looks_then, none_later, read_goes, stepped_then}
+use Rattle.big_atomic.proofs.Goings.{LooksAt, goes_look, goes_lost, goes_still, goes_then, looks_at, moved_since}
+use Rattle.big_atomic.proofs.Paid.{still_exchanges}
+use Rattle.big_atomic.specs.Calling.{AreLooks, Goes, HasClaim, HasFound, OnlySteps}
+use Rattle.chain_links.proofs.Passing.{announced_kept, announced_names, claim_at_low, come_sound, passed_kept, read_kept, rechecked_kept}
+use Rattle.chain_links.specs.Walking.{HasBack, HasCome, HasMoved, HasPassed}
+use Rattle.hazard_claims.specs.Claiming.{IsAnnounced}
+use Rattle.hazard_claims.specs.declared.claims.Claim.TheVariants.{Walk}
+use Rattle.node_pool.specs.Pool.{IsRead, load_steps}
+use Rattle.seat_history.specs.declared.entry.Entry.{Entry}
+use Rattle.step_rules.proofs.Trails.{longer_seen}
+use Rattle.step_rules.specs.Claims.{BACK, HOLD, OWN, WALK}
+use Rattle.step_rules.specs.History.{NoneOn}
+use Rattle.step_rules.specs.Kinds.Walking.{Walks}
+use Rattle.step_rules.specs.SeatData.{SeatData}
+use Rattle.step_rules.specs.Sound.{Sound}
+use Rattle.step_rules.specs.Steps.{Sees, stepped}
+use Rattle.step_rules.specs.Views.{announced, announced_view, claim_of, counted, look_at, silent, stock, walked_claim}
+use Rattle.step_rules.specs.declared.plan.Plan.{Plan}
+use Rattle.step_rules.specs.declared.view.Claim.{Claim}
+use Rattle.step_rules.specs.declared.view.Counted.{Counted}
+use Rattle.step_rules.specs.declared.view.Held.{Held}
+use Rattle.step_rules.specs.declared.view.Kind.TheVariants.{ClaimStore, Recheck}
+use Rattle.step_rules.specs.declared.view.View.{View}
+
+-- looks and loads that leave the seat's lists and its claims on Own and Hold
+pub record Part (cell : ℕ) (steps : List Counted) (old now : SeatData) : Type 0 where
+  pub goes : Goes cell (Some (length old.view.seen)) steps old now
+  pub looks : AreLooks steps
+  pub same : now ≡ stepped now.view old
+  pub retired : now.view.retired ≡ old.view.retired
+  pub hold : claim_of HOLD now.view ≡ claim_of HOLD old.view
+  pub own : claim_of OWN now.view ≡ claim_of OWN old.view
+
+pub part_then : (cell : ℕ) (a b : List Counted) (u v w : SeatData) → Part cell a u v → Part cell b v w → Part cell (a ++ b) u w
+part_then cell a b u v w p q = record {
+  goes = goes_then p.goes q.goes;
+  looks = looks_then a b p.looks q.looks;
+  same = stepped_then u v w p.same q.same;
+  retired = q.retired ∙ p.retired;
+  hold = q.hold ∙ p.hold;
+  own = q.own ∙ p.own;
+}
+
+read_part : (cell node : ℕ) (words : List ℕ) (old now : SeatData) → IsRead node words old now → Sound now.view → Part cell (load_steps node 0 words (length old.view.seen)) old now
+read_part cell node words old now r sound =
+    let steps = load_steps node 0 words (length old.view.seen) in record {
+      goes = read_goes cell node words old now r sound;
+      looks = record {
+        none_exchanged = still_exchanges steps (loads_still node 0 (length old.view.seen) words);
+        none_scanned = loads_unscanned node 0 (length old.view.seen) words;
+      };
+      same = r.same ∙ ap (λ (z : SeatData). stepped z.view old) (sym r.same);
+      retired = ap (λ (z : SeatData). z.view.retired) r.same;
+      hold = ap (λ (z : SeatData). claim_of HOLD z.view) r.same;
+      own = ap (λ (z : SeatData). claim_of OWN z.view) r.same;
+    }
+
+abbrev announce_step : ℕ → SeatData → Counted
+announce_step link old = counted (ClaimStore WALK link) (link + 1) (length old.view.seen)
+
+announce_part : (cell link : ℕ) (old now : SeatData) → IsAnnounced Walk link old now → Sound now.view → Part cell (announce_step link old ∷ []) old now
+announce_part cell link old now a sound =
+    let view : now.view ≡ announced_view WALK link old.view = ap (λ (z : SeatData). z.view) a in record {
+      goes = goes_still cell (announce_step link old ∷ []) old now (subst (λ (z : View). OnlySteps old.view z) (sym view) refl)
+          (ap (λ (z : View). z.trail) view) (ap (λ (z : View). z.seen) view) refl (ap (λ (z : SeatData). z.object) a) (ap (λ (z : SeatData). z.first) a) (ap stock view) sound;
+      looks = record { none_exchanged = refl; none_scanned = refl };
+      same = a ∙ ap (λ (z : SeatData). stepped z.view old) (sym a);
+      retired = ap (λ (z : View). z.retired) view;
+      hold = ap (λ (z : View). claim_of HOLD z) view ∙ get_or-set_other old.view.claims WALK HOLD (announced WALK link old.view) (silent 0) (λ e. absurd (omega arith));
+      own = ap (λ (z : View). claim_of OWN z) view ∙ get_or-set_other old.view.claims WALK OWN (announced WALK link old.view) (silent 0) (λ e. absurd (omega arith));
+    }
+
+-- a recheck of Walk that found Back's node
+module _ (cell seen found link : ℕ) (old now : SeatData) (near : found / 2 ≡ seen / 2) (walks : Walks cell seen found link old.view now.view) (same : now ≡ stepped now.view old)
+    (before : Sound old.view) (sound : Sound now.view) where
+  abbrev recheck_step : Counted
+  recheck_step = counted (Recheck WALK cell seen) found (length now.view.seen)
+
+  seen_is : now.view.seen ≡ walks.log
+  seen_is = ap (λ (z : View). z.seen) walks.after
+
+  look : LooksAt cell recheck_step old now
+  look = record {
+    only = subst (λ (z : View). OnlySteps old.view z) (sym walks.after) refl;
+    trail = ap (λ (z : View). z.trail) walks.after ∙ ap (λ (s : List Entry). old.view.trail ++ counted (Recheck WALK cell seen) found (length s) ∷ []) (sym seen_is);
+    seen = (walks.rest, seen_is ∙ walks.seen);
+    whole = refl;
+    look = eq-eqb cell cell refl;
+    object = ap (λ (z : SeatData). z.object) same;
+    first = ap (λ (z : SeatData). z.first) same;
+    stock = ap stock walks.after;
+    before = before;
+    sound = sound;
+  }
+
+  recheck_part : Part cell (recheck_step ∷ []) old now
+  recheck_part = record {
+    goes = goes_look (Some (length old.view.seen)) look (ap not (eq-eqb (found / 2) (seen / 2) near));
+    looks = record { none_exchanged = refl; none_scanned = refl };
+    same = same;
+    retired = ap (λ (z : View). z.retired) walks.after;
+    hold = ap (λ (z : View). claim_of HOLD z) walks.after ∙ get_or-set_other old.view.claims WALK HOLD (walked_claim link cell (length walks.log) old.view) (silent 0) (λ e. absurd (omega arith));
+    own = ap (λ (z : View). claim_of OWN z) walks.after ∙ get_or-set_other old.view.claims WALK OWN (walked_claim link cell (length walks.log) old.view) (silent 0) (λ e. absurd (omega arith));
+  }
+
+  recheck_found : HasFound cell found now.view
+  recheck_found = ap (λ (z : View). z.look) walks.after ∙ ap (λ (s : List Entry). Some (look_at cell found (length s))) (sym seen_is)
+
+-- a walk so far: its steps, the word found last, which has Back's node, and no entry on the cell since the Back claim began to stand
+pub record Way (cell seen : ℕ) (old now : SeatData) : Type 0 where
+  pub steps : List Counted
+  pub part : Part cell steps old now
+  pub back : claim_of BACK now.view ≡ claim_of BACK old.view
+  pub word : ℕ
+  pub found : HasFound cell word now.view
+  pub near : word / 2 ≡ seen / 2
+  pub calm : NoneOn now.view.plan cell (drop (claim_of BACK now.view).at now.view.seen)
+
+way_first : (cell seen word node : ℕ) (words : List ℕ) (old now : SeatData) → HasClaim BACK cell word old.view
+    → word / 2 ≡ seen / 2 → IsRead node words old now → Sound now.view → Way cell seen old now
+way_first cell seen word node words old now claim near r sound = record {
+  steps = load_steps node 0 words (length old.view.seen);
+  part = read_part cell node words old now r sound;
+  back = ap (λ (z : SeatData). claim_of BACK z.view) r.same;
+  word = word;
+  found = ap (λ (z : SeatData). z.view.look) r.same ∙ (claim.found ∙ ap (λ (z : SeatData). Some (look_at cell word (length z.view.seen))) (sym r.same));
+  near = near;
+  calm = subst (λ (l : List Entry). NoneOn now.view.plan cell l) (sym (ap (λ (z : SeatData). drop (claim_of BACK z.view).at z.view.seen) r.same
+      ∙ (ap (λ n. drop n old.view.seen) claim.now_at ∙ drop_of_length-le old.view.seen (omega arith)))) tt;
+}
+
+-- one more link
+way_on : (cell seen : ℕ) (page : Held) (old mid now : SeatData) → Way cell seen old mid → Sound mid.view → HasBack cell old.view → HasPassed cell seen page mid now → Way cell seen old now
+way_on cell seen page old mid now w sound b h =
+    let naming = announced_names page.node mid h.announced sound h.announces in
+    let r = h.rechecks in
+    let walks : Walks cell seen h.found page.node h.announced.view h.rechecked.view = r.answers.1 page.node naming in
+    let near : h.found / 2 ≡ seen / 2 = r.answers.0 in
+    let first = announce_part cell page.node mid h.announced h.announces h.announced_sound in
+    let second = recheck_part cell seen h.found page.node h.announced h.rechecked near walks r.same h.announced_sound h.rechecked_sound in
+    let third = read_part cell page.node page.words h.rechecked now h.reads h.sound in
+    let a : List Counted = announce_step page.node mid ∷ [] in
+    let c : List Counted = counted (Recheck WALK cell seen) h.found (length h.rechecked.view.seen) ∷ [] in
+    let d = load_steps page.node 0 page.words (length h.rechecked.view.seen) in
+    let k = passed_kept cell seen page mid now sound h in
+    let k_announced = announced_kept page.node mid h.announced h.announces in
+    let k_rechecked = rechecked_kept cell seen h.found page.node h.announced h.rechecked h.announced_sound naming r in
+    let calm : NoneOn h.announced.view.plan cell (drop (claim_of BACK h.announced.view).at walks.log) =
+    walks.calm (claim_of BACK h.announced.view) (claim_at_low BACK h.announced.view h.announced_sound (omega arith)) in
+    let seen_is : now.view.seen ≡ walks.log = ap (λ (z : SeatData). z.view.seen) h.reads.same ∙ ap (λ (z : View). z.seen) walks.after in
+    let back_is : claim_of BACK now.view ≡ claim_of BACK h.announced.view = (read_kept h.reads).back ∙ k_rechecked.back in
+    let plan_is : now.view.plan ≡ h.announced.view.plan = (read_kept h.reads).plan ∙ k_rechecked.plan in record {
+      steps = w.steps ++ (a ++ (c ++ d));
+      part = part_then cell w.steps (a ++ (c ++ d)) old mid now w.part
+          (part_then cell a (c ++ d) mid h.announced now first (part_then cell c d h.announced h.rechecked now second third));
+      back = k.back ∙ w.back;
+      word = h.found;
+      found = ap (λ (z : SeatData). z.view.look) h.reads.same ∙ (recheck_found cell seen h.found page.node h.announced h.rechecked near walks r.same h.announced_sound h.rechecked_sound
+          ∙ ap (λ (z : SeatData). Some (look_at cell h.found (length z.view.seen))) (sym h.reads.same));
+      near = near;
+      calm = subst (λ (z : Plan × Claim × List Entry). NoneOn z.0 cell (drop z.1.at z.2)) (λ i. (sym plan_is i, sym back_is i, sym seen_is i)) calm;
+    }
+
+pub come_way : (cell seen word n : ℕ) (old now : SeatData) → HasClaim BACK cell word old.view → word / 2 ≡ seen / 2 → HasBack cell old.view → HasCome cell seen n old now → Way cell seen old now
+come_way cell seen word zero old now claim near b h = way_first cell seen word h.0.node h.0.words old now claim near h.2 h.3
+come_way cell seen word (suc n) old now claim near b h =
+    way_on cell seen h.1 old h.0 now (come_way cell seen word n old h.0 claim near b h.2) (come_sound cell seen n old h.0 h.2) b h.4
+
+-- a walk that was lost: since it began the history has an entry on the cell
+pub record Lost (cell : ℕ) (old now : SeatData) : Type 0 where
+  pub steps : List Counted
+  pub part : Part cell steps old now
+  pub changed : ¬ NoneOn now.view.plan cell (drop (length old.view.seen) now.view.seen)
+
+pub moved_lost : (cell seen word : ℕ) (old now : SeatData) → HasClaim BACK cell word old.view → word / 2 ≡ seen / 2 → HasBack cell old.view → HasMoved cell seen old now → Lost cell old now
+moved_lost cell seen word old now claim near b m =
+    let s = m.strayed in
+    let w = come_way cell seen word m.passed old m.mid claim near b m.come in
+    let a : List Counted = announce_step m.page.node m.mid ∷ [] in
+    let c : List Counted = counted (Recheck WALK cell seen) s.found (length now.view.seen) ∷ [] in
+    let first = announce_part cell m.page.node m.mid s.announced s.announces s.announced_sound in
+    let sees : Sees (Recheck WALK cell seen) cell s.found s.announced now = record { looks = s.rechecks.answers.1; same = s.rechecks.same } in
+    let found : HasFound cell w.word s.announced.view = ap (λ (z : SeatData). z.view.look) s.announces
+    ∙ (w.found ∙ ap (λ (z : SeatData). Some (look_at cell w.word (length z.view.seen))) (sym s.announces)) in
+    let moved : ¬ NoneOn s.announced.view.plan cell (drop (length s.announced.view.seen) now.view.seen) = moved_since sees found (λ e. s.rechecks.answers.0 (e ∙ w.near)) in
+    let view = sees.looks.after in
+    let second : Part cell c s.announced now = record {
+      goes = goes_lost (looks_at (eq-eqb cell cell refl) sees s.announced_sound s.sound) moved;
+      looks = record { none_exchanged = refl; none_scanned = refl };
+      same = s.rechecks.same;
+      retired = ap (λ (z : View). z.retired) view;
+      hold = ap (λ (z : View). claim_of HOLD z) view;
+      own = ap (λ (z : View). claim_of OWN z) view;
+    } in
+    let whole : Part cell (w.steps ++ (a ++ c)) old now = part_then cell w.steps (a ++ c) old m.mid now w.part (part_then cell a c m.mid s.announced now first second) in
+    let before : Goes cell (Some (length old.view.seen)) (w.steps ++ a) old s.announced = (part_then cell w.steps a old m.mid s.announced w.part first).goes in record {
+      steps = w.steps ++ (a ++ c);
+      part = whole;
+      changed = λ none. moved (subst (λ (p : Plan). NoneOn p cell (drop (length s.announced.view.seen) now.view.seen)) (ap (λ (z : View). z.plan) view)
+          (none_later now.view.plan cell (length old.view.seen) s.announced.view.seen now.view.seen (longer_seen old.view.seen s.announced.view.seen before.seen) (second.goes.seen) none));
+    }
