@@ -1,15 +1,14 @@
 //! Threads that store and load.
 ghost use Rattle.std.specs.Prelude.{◌≡◌, All, IfOk, IfSome};
 ghost use Rattle.big_atomic.specs.Ready.{IsReady};
+ghost use Rattle.big_atomic.specs.Seats.{IsUnused};
 ghost use Rattle.step_rules.specs.Layout.{IsPlan};
 ghost use Rattle.step_rules.specs.SeatData.{IsOf};
 
-use big_atomic::{Stored, load, store};
-use seat_history::WIDTH;
+use big_atomic::{Plan, Seat, Shared, Stored, WIDTH, build, load, split_all, store};
 use std::alloc::{AllocError, Global};
 use std::thread;
 use std::thread::Threads;
-use step_rules::{Plan, Seat, Shared, build};
 
 /// What is to be done: so many calls by each seat of the plan's.
 #[derive(Clone, Copy, Drop)]
@@ -63,8 +62,9 @@ pub(crate) fn run<R: Threads + Sync>(
     let Ok((shared, seat)) = build(alloc, &asked.plan) else {
         return Ok(None);
     };
-    let mut seats = Vec::new(alloc);
-    spread(alloc, &shared, seat, 6, &mut seats)?;
+    let Ok(seats) = split_all(alloc, &shared, seat) else {
+        return Ok(None);
+    };
     let ran = thread::map_vec(rt, seats, &|seat| calls(&shared, seat, asked))?;
     let Some(Ran { seat, done }) = gathered(&shared, ran) else {
         return Ok(None);
@@ -76,51 +76,18 @@ pub(crate) fn run<R: Threads + Sync>(
     Ok(Some(done))
 }
 
-// Cuts a seat into seats of one number each; the first comes last.
-fn spread(
-    alloc: Global,
-    shared: &Shared,
-    mut seat: Seat,
-    depth: u32,
-    seats: &mut Vec<Seat>,
-) -> Result<(), AllocError>
-    requires ready { IsReady shared.now seat }
-    requires all { All (λ seat. IsReady shared.now seat) seats.old.items }
-    ensures all { IfOk result (λ _. All (λ seat. IsReady shared.now seat) seats.new.items) }
-{
-    if depth > 0 && seat.fresh() && seat.numbers() > 1 {
-        let Ok(other) = shared.split(alloc, &mut seat) else {
-            return Err(AllocError);
-        };
-        seat.law();
-        other.law();
-        spread(alloc, shared, other, depth - 1, seats)?;
-        return spread(alloc, shared, seat, depth - 1, seats);
-    }
-    Ok(seats.push(seat)?)
-}
-
-// Joins all seats into the first one, which comes last, and adds up their calls.
-fn gathered(shared: &Shared, mut ran: Vec<Ran>) -> Option<Ran>
+// Joins all seats into the first one, and adds up their calls.
+fn gathered(shared: &Shared, ran: Vec<Ran>) -> Option<Ran>
     requires ours { All (λ one. IsOf shared.now one.seat) ran.items }
     ensures ours { IfSome result (λ one. IsOf shared.now one.seat) }
 {
-    let mut first = last(shared, &mut ran)?;
-    for _ in 0..ran.len() {
-        let other = last(shared, &mut ran)?;
+    let mut ran = ran.into_iter();
+    let mut first = ran.next()?;
+    for other in ran {
         gather(shared, &mut first.seat, other.seat);
         first.done = first.done.wrapping_add(other.done);
     }
     Some(first)
-}
-
-// The last one, taken off the list.
-fn last(shared: &Shared, ran: &mut Vec<Ran>) -> Option<Ran>
-    requires ours { All (λ one. IsOf shared.now one.seat) ran.old.items }
-    ensures ours { All (λ one. IsOf shared.now one.seat) ran.new.items }
-    ensures last { IfSome result (λ one. IsOf shared.now one.seat) }
-{
-    ran.pop()
 }
 
 // Takes a seat into the first one, where both are quiet.
@@ -136,7 +103,7 @@ fn gather(shared: &Shared, first: &mut Seat, other: Seat)
 
 // Makes the calls of one seat.
 fn calls(shared: &Shared, mut seat: Seat, asked: &Asked) -> Ran
-    requires ready { IsReady shared.now seat }
+    requires unused { IsUnused shared.now seat }
     ensures ours { IsOf shared.now result.seat }
 {
     let mut done = 0u64;
