@@ -1,4 +1,4 @@
--- Files are read one after the other: one more that is tallied, and the first that isn't.
+-- Files are read one after the other: one more that is good, and the first that isn't.
 use Rattle.std.specs.Prelude.{slice_get, Ok, Err, map}
 use Rattle.std.specs.List.{AllByRecursion}
 use Rattle.std.proofs.Common.{◌≡◌, ◌∙◌, ℕ, ◌+◌, ◌-◌, ◌≤◌, Option, Some, None, List, [], ◌∷◌, ◌++◌, length, take, refl, sym, ap, ap₂, subst, arith}
@@ -7,35 +7,36 @@ use Rattle.wire_ports.specs.Ports.{Names, bytes_under}
 use Rattle.netflow_five.specs.File.{joined, IsFile, IsWellFormed}
 use Rattle.netflow_five.proofs.Files.{joined-append, files_joined}
 use Rattle.flow_tally.specs.Input.{most_bytes, AreContents, FeedShown, IsReadOut, StopsAt, IsBytesOf, IsAt, IsTooLarge, RefusesFiles}
-use Rattle.flow_tally.specs.Reading.{IsLongerFile, Reads, AddsFile, IsTalliedOf, HasRead}
-use Rattle.flow_tally.specs.Tallied.{HasTallied}
+use Rattle.flow_tally.specs.Reading.{IsLongerFile, Reads, AddsFile, IsGatheredOf, HasRead}
+use Rattle.flow_tally.specs.Gathered.{HasGathered}
 use Rattle.flow_tally.specs.declared.status.Status.{Status}
 use Rattle.flow_tally.specs.declared.status.Status.TheVariants.{Done, Usage, OpenFault, ReadFault, WriteFault, BadDatagram, TooManyFlows, InputTooLarge, BadScript, NoMemory, PlanTooLarge}
-use Rattle.flow_tally.specs.declared.tallied.Tallied.{Tallied}
+use Rattle.flow_tally.specs.declared.gathered.Gathered.{Gathered}
+use Rattle.flow_tally.proofs.Gathering.{gathered_more}
 use Rattle.flow_tally.proofs.Lists.{take_get, length-take_get}
 
--- the first i files are these contents, they are tallied, and so much room is left
-pub record ReadSoFar (names : Option Names) (files : List (List ℕ)) (i left : ℕ) (contents ds : List (List ℕ)) (tallied : Tallied) : Type 0 where
+-- the first i files are these contents, their records are gathered, and so much room is left
+pub record ReadSoFar (names : Option Names) (files : List (List ℕ)) (i left : ℕ) (contents ds : List (List ℕ)) (gathered : Gathered) : Type 0 where
   pub count : length contents ≡ i
   pub told : AreContents names (take i files) contents
-  pub sum : IsTalliedOf contents ds tallied
+  pub sum : IsGatheredOf contents ds gathered
   pub room : left + length (joined contents) ≡ most_bytes
 
-abbrev pub SoFar : Option Names → List (List ℕ) → ℕ → ℕ → Tallied → Type 0
-SoFar names files i left tallied = (contents : List (List ℕ)) × (ds : List (List ℕ)) × ReadSoFar names files i left contents ds tallied
+abbrev pub SoFar : Option Names → List (List ℕ) → ℕ → ℕ → Gathered → Type 0
+SoFar names files i left gathered = (contents : List (List ℕ)) × (ds : List (List ℕ)) × ReadSoFar names files i left contents ds gathered
 
 no_contents : (names : Option Names) → AreContents names [] []
 no_contents None = refl
 no_contents (Some names) = refl
 
-pub none_so_far : (names : Option Names) (files : List (List ℕ)) (tallied : Tallied) → HasTallied [] tallied → SoFar names files 0 most_bytes tallied
-none_so_far names files tallied had = (
+pub none_so_far : (names : Option Names) (files : List (List ℕ)) (gathered : Gathered) → HasGathered [] gathered → SoFar names files 0 most_bytes gathered
+none_so_far names files gathered had = (
   [],
   [],
   record {
     count = refl;
     told = no_contents names;
-    sum = record { good = record { each = tt; within = omega arith }; file = record { each = tt; whole = refl }; tally = had };
+    sum = record { good = record { each = tt; within = omega arith }; file = record { each = tt; whole = refl }; all = had };
     room = omega arith;
   },
 )
@@ -57,7 +58,7 @@ joined_more : (contents : List (List ℕ)) (bytes : List ℕ) → joined (conten
 joined_more contents bytes = joined-append contents (bytes ∷ []) ∙ ap (λ (z : List ℕ). joined contents ++ z) (append-nil bytes)
 
 -- one file more
-pub file_so_far : (feed : FeedShown) (files : List (List ℕ)) (i left n : ℕ) (name : List ℕ) (file : ℕ) (old new : Tallied)
+pub file_so_far : (feed : FeedShown) (files : List (List ℕ)) (i left n : ℕ) (name : List ℕ) (file : ℕ) (old new : Gathered)
     → slice_get files i ≡ Some name → SoFar feed.names files i left old → AddsFile left feed name file old new (Ok n) → SoFar feed.names files (i + 1) (left - n) new
 file_so_far feed files i left n name file old new is so_far adds =
     let names = feed.names in
@@ -78,15 +79,16 @@ file_so_far feed files i left n name file old new is so_far adds =
         sum = record {
           good = record { each = each_more contents bytes had.sum.good.each (adds.2, adds.5); within = omega arith };
           file = subst (λ (z : List ℕ). IsFile z (ds ++ adds.2)) (sym (joined_more contents bytes)) (files_joined (joined contents) bytes ds adds.2 had.sum.file adds.5);
-          tally = adds.6 ds had.sum.tally;
+          all = gathered_more ds adds.2 old new had.sum.all adds.6;
         };
         room = omega arith;
       },
     )
 
 -- after the last file all were read
-pub all_so_far : (feed : FeedShown) (files : List (List ℕ)) (i left : ℕ) (tallied : Tallied) → i ≡ length files → SoFar feed.names files i left tallied → IsReadOut i feed → HasRead feed files tallied
-all_so_far feed files i left tallied end so_far out = (
+pub all_so_far : (feed : FeedShown) (files : List (List ℕ)) (i left : ℕ) (gathered : Gathered) → i ≡ length files
+    → SoFar feed.names files i left gathered → IsReadOut i feed → HasRead feed files gathered
+all_so_far feed files i left gathered end so_far out = (
   subst (λ (n : ℕ). IsReadOut n feed) end out,
   so_far.0,
   so_far.1,
@@ -94,9 +96,9 @@ all_so_far feed files i left tallied end so_far out = (
   so_far.2.sum,
 )
 
-at_file : (names : Option Names) (files : List (List ℕ)) (i left : ℕ) (name : List ℕ) (tallied : Tallied) (contents ds : List (List ℕ)) (file : ℕ)
-    → slice_get files i ≡ Some name → file ≡ i + 1 → ReadSoFar names files i left contents ds tallied → IsAt names files file contents name
-at_file names files i left name tallied contents ds file is number had = record {
+at_file : (names : Option Names) (files : List (List ℕ)) (i left : ℕ) (name : List ℕ) (gathered : Gathered) (contents ds : List (List ℕ)) (file : ℕ)
+    → slice_get files i ≡ Some name → file ≡ i + 1 → ReadSoFar names files i left contents ds gathered → IsAt names files file contents name
+at_file names files i left name gathered contents ds file is number had = record {
   number = omega (arith, number, had.count);
   name_there = ap (slice_get files) had.count ∙ is;
   told = subst (λ (k : ℕ). AreContents names (take k files) contents) (sym had.count) had.told;
@@ -111,8 +113,8 @@ too_large (Some names) contents name left room longer = omega arith
 alone : (names : Option Names) (name : List ℕ) (file : ℕ) → file ≡ 1 → IsAt names (name ∷ []) file [] name
 alone names name file is = record { number = is; name_there = refl; told = no_contents names; good = record { each = tt; within = omega arith } }
 
--- a file that can't be tallied
-pub file_refused : (feed : FeedShown) (files : List (List ℕ)) (i left : ℕ) (name : List ℕ) (file : ℕ) (old new : Tallied) (status : Status)
+-- a file that can't be gathered
+pub file_refused : (feed : FeedShown) (files : List (List ℕ)) (i left : ℕ) (name : List ℕ) (file : ℕ) (old new : Gathered) (status : Status)
     → slice_get files i ≡ Some name → file ≡ i + 1 → feed.current ≡ file → SoFar feed.names files i left old → AddsFile left feed name file old new (Err status) → RefusesFiles files feed status
 file_refused feed files i left name file old new (OpenFault number) is number_is last so_far adds = (
   so_far.0,

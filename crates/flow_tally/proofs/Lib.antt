@@ -1,4 +1,5 @@
 pub mod Digits
+pub mod Gathering
 pub mod Inputs
 pub mod Lists
 pub mod OutcomeComplete
@@ -9,5 +10,4 @@ pub mod OutcomeReport
 pub mod Outcomes
 pub mod Parse
 pub mod Rules
-pub mod Tallies
 pub mod Told

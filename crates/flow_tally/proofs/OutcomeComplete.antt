@@ -131,7 +131,8 @@ put (Some (OfDrive drive)) feed out names NoMemory says = says.1
 put (Some (OfDrive drive)) feed out names (PlanTooLarge nodes) says = says.1
 
 -- the output is the one that the words ask for, whole, in part or not at all
-pub has_output : (asked : Option Command) (feed : FeedShown) (out : OutShown) (names : Names) (status : Status) → feed.names ≡ Some names → Says asked feed out status → HasOutput asked names out status
+pub has_output : (asked : Option Command) (feed : FeedShown) (out : OutShown) (names : Names) (status : Status)
+    → feed.names ≡ Some names → Says asked feed out status → HasOutput asked names out status
 has_output asked feed out names status told says = put asked feed out names status (says_told asked feed out names status told says)
 
 -- at Done the output is the report that words and files determine

@@ -146,7 +146,8 @@ module _ (drive : Drive) (names : Names) where
   one_for_drive s (PlanTooLarge n) a b = absurd b
 
 -- a file that is read alone and fails refuses the drive
-pub read_refuses : (drive : Drive) (feed : FeedShown) (name : List ℕ) (status : Status) → name ≡ drive.file → feed.current ≡ 1 → Reads most_bytes feed name 1 (Err status) → RefusesDrive drive feed status
+pub read_refuses : (drive : Drive) (feed : FeedShown) (name : List ℕ) (status : Status) → name ≡ drive.file
+    → feed.current ≡ 1 → Reads most_bytes feed name 1 (Err status) → RefusesDrive drive feed status
 read_refuses drive feed name status is last reads =
     let here = subst (λ (z : List ℕ). Reads most_bytes feed z 1 (Err status)) is reads in
     refuses status (one_refused feed drive.file status last here) here

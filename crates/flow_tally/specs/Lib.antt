@@ -1,4 +1,5 @@
 pub mod DriveOutcome
+pub mod Gathered
 pub mod Input
 pub mod Message
 pub mod Numbers
@@ -7,6 +8,5 @@ pub mod Outcome
 pub mod Program
 pub mod Reading
 pub mod Status
-pub mod Tallied
 pub mod Telling
 pub mod Words

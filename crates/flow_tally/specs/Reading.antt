@@ -7,10 +7,10 @@ use Rattle.netflow_five.specs.File.{joined, IsFile, IsBad}
 use Rattle.netflow_five.specs.declared.refused.Refused.{Refused}
 use Rattle.netflow_five.specs.declared.refused.Refused.TheVariants as refused
 use Rattle.flow_tally.specs.Input.{AreContents, AreGood, IsBytesOf, FeedShown, IsReadOut, StopsAt}
-use Rattle.flow_tally.specs.Tallied.{HasTallied, Adds}
+use Rattle.flow_tally.specs.Gathered.{HasGathered, Adds}
 use Rattle.flow_tally.specs.declared.status.Status.{Status}
 use Rattle.flow_tally.specs.declared.status.Status.TheVariants.{OpenFault, ReadFault, BadDatagram, InputTooLarge, NoMemory}
-use Rattle.flow_tally.specs.declared.tallied.Tallied.{Tallied}
+use Rattle.flow_tally.specs.declared.gathered.Gathered.{Gathered}
 
 -- the file has more than so many bytes, where the feed tells them
 abbrev pub IsLongerFile : ℕ → Option Names → List ℕ → Type 0
@@ -26,24 +26,24 @@ Reads most feed name file (Err (InputTooLarge number)) = (number ≡ file) × Is
 Reads most feed name file (Err NoMemory) = Unit {0}
 Reads most feed name file (Err _) = ⊥
 
--- what the reading and tallying of a file gives; at Ok how many bytes it has
-abbrev pub AddsFile : ℕ → FeedShown → List ℕ → ℕ → Tallied → Tallied → Result ℕ Status → Type 0
+-- what the reading and decoding of a file gives; at Ok how many bytes it has
+abbrev pub AddsFile : ℕ → FeedShown → List ℕ → ℕ → Gathered → Gathered → Result ℕ Status → Type 0
 AddsFile most feed name file old new (Ok n) = (n ≤ most) × (bytes : List ℕ) × (ds : List (List ℕ))
     × (n ≡ length bytes) × IsBytesOf feed.names name bytes × IsFile bytes ds × Adds ds old new × IsReadOut file feed
 AddsFile most feed name file old new (Err (BadDatagram number offset cause)) = (number ≡ file) × (bytes : List ℕ)
     × IsBytesOf feed.names name bytes × (length bytes ≤ most) × IsBad bytes offset cause × StopsAt file feed
 AddsFile most feed name file old new (Err status) = Reads most feed name file (Err status)
 
--- the files are good, and what was tallied is of the datagrams that they are
-pub record IsTalliedOf (contents ds : List (List ℕ)) (tallied : Tallied) : Type 0 where
+-- the files are good, and what was gathered is of the datagrams that they are
+pub record IsGatheredOf (contents ds : List (List ℕ)) (gathered : Gathered) : Type 0 where
   pub good : AreGood contents
   pub file : IsFile (joined contents) ds
-  pub tally : HasTallied ds tallied
+  pub all : HasGathered ds gathered
 
--- all files were read and tallied
-abbrev pub HasRead : FeedShown → List (List ℕ) → Tallied → Type 0
-HasRead feed files tallied = IsReadOut (length files) feed
-    × (contents : List (List ℕ)) × (ds : List (List ℕ)) × AreContents feed.names files contents × IsTalliedOf contents ds tallied
+-- all files were read and gathered
+abbrev pub HasRead : FeedShown → List (List ℕ) → Gathered → Type 0
+HasRead feed files gathered = IsReadOut (length files) feed
+    × (contents : List (List ℕ)) × (ds : List (List ℕ)) × AreContents feed.names files contents × IsGatheredOf contents ds gathered
 
 -- the status of a file that was refused
 abbrev pub IsStatusOf : ℕ → Refused → Status → Type 0

@@ -3,8 +3,8 @@ ghost use Rattle.std.specs.String.{string_bytes};
 ghost use Rattle.flow_tally.specs.Input.{feed_shown, RefusesFiles};
 ghost use Rattle.flow_tally.specs.Reading.{Reads, AddsFile, HasRead, IsStatusOf};
 
+use crate::gathered::Gathered;
 use crate::status::Status;
-use crate::tallied::Tallied;
 use netflow_five::Refused;
 use std::alloc::Global;
 use wire_ports::{Feed, ReadEnd, read_whole};
@@ -54,35 +54,37 @@ fn refused_file(file: u32, refused: Refused) -> Status
 fn add_file<F: Feed>(
     alloc: Global,
     feed: &mut F,
-    tallied: &mut Tallied,
+    gathered: &mut Gathered,
     file: u32,
     name: &str,
     most: usize,
 ) -> Result<usize, Status>
-    requires records { tallied.old.records + most < 2 ^ 64 }
-    requires datagrams { tallied.old.datagrams + most < 2 ^ 64 }
-    ensures file { AddsFile most (feed_shown F.files F.faults F.failed F.current F.started F.left feed.old feed.new) name.now file tallied.old tallied.new result }
+    requires datagrams { gathered.old.datagrams + most < 2 ^ 64 }
+    ensures file { AddsFile most (feed_shown F.files F.faults F.failed F.current F.started F.left feed.old feed.new) name.now file gathered.old gathered.new result }
     ensures current { F.current feed.new ≡ file }
-    ensures records { IfOk result (λ n. tallied.new.records ≤ tallied.old.records + n) }
-    ensures datagrams { IfOk result (λ n. tallied.new.datagrams ≤ tallied.old.datagrams + n) }
+    ensures datagrams { IfOk result (λ n. gathered.new.datagrams ≤ gathered.old.datagrams + n) }
     ensures files { F.files feed.new ≡ F.files feed.old }
     ensures later { F.faults feed.old ≤ F.faults feed.new }
 {
     let bytes = read_file(alloc, feed, file, name, most)?;
-    match tallied.add_file(&bytes) {
+    match gathered.add_file(&bytes) {
         Ok(()) => Ok(bytes.len()),
         Err(refused) => Err(refused_file(file, refused)),
     }
 }
 
 /// Reads the files in order and tallies them.
-pub fn read_files<F: Feed>(alloc: Global, feed: &mut F, files: &[String]) -> Result<Tallied, Status>
+pub fn read_files<F: Feed>(
+    alloc: Global,
+    feed: &mut F,
+    files: &[String],
+) -> Result<Gathered, Status>
     ensures read { MatchResult result (HasRead (feed_shown F.files F.faults F.failed F.current F.started F.left feed.old feed.new) (map string_bytes files.now))
         (RefusesFiles (map string_bytes files.now) (feed_shown F.files F.faults F.failed F.current F.started F.left feed.old feed.new)) }
     ensures files { F.files feed.new ≡ F.files feed.old }
     ensures later { F.faults feed.old ≤ F.faults feed.new }
 {
-    let mut tallied = Tallied::new(alloc);
+    let mut gathered = Gathered::new(alloc);
     let mut left = MOST_BYTES;
     let mut file: u32 = 0;
     for name in files {
@@ -91,10 +93,10 @@ pub fn read_files<F: Feed>(alloc: Global, feed: &mut F, files: &[String]) -> Res
             Some(next) => next,
             None => return Err(Status::NoMemory),
         };
-        match add_file(alloc, feed, &mut tallied, file, name.as_str(), left) {
+        match add_file(alloc, feed, &mut gathered, file, name.as_str(), left) {
             Ok(n) => left -= n,
             Err(status) => return Err(status),
         }
     }
-    Ok(tallied)
+    Ok(gathered)
 }

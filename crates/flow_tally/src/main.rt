@@ -4,6 +4,7 @@
 mod answer;
 mod drive;
 mod drive_words;
+mod gathered;
 mod input;
 mod laws;
 mod message;
@@ -11,7 +12,6 @@ mod numbers;
 mod output;
 mod program;
 mod status;
-mod tallied;
 mod tally;
 mod tally_words;
 #[cfg(test)]

@@ -2,16 +2,16 @@ ghost use Rattle.std.specs.Prelude.{◌≡◌, List, ℕ, IfErr, MatchResult};
 ghost use Rattle.flow_tally.specs.Input.{feed_shown};
 ghost use Rattle.flow_tally.specs.OutShown.{out_shown};
 ghost use Rattle.flow_tally.specs.Outcome.{nodes_of, Reports, Refuses, TallySays, GivesText, LeavesFeed};
-ghost use Rattle.flow_tally.specs.Reading.{IsTalliedOf};
+ghost use Rattle.flow_tally.specs.Reading.{IsGatheredOf};
 ghost use Rattle.flow_tally.specs.Words.{tally_in};
 
 use crate::answer::{Answer, Ended};
+use crate::gathered::Gathered;
 use crate::input::read_files;
 use crate::output::write_output;
 use crate::status::Status;
-use crate::tallied::Tallied;
 use crate::tally_words::TallyWords;
-use flow_fold::flows_of;
+use flow_fold::{flows_of, fold};
 use flow_report::{Totals, report};
 use std::alloc::Global;
 use wire_ports::{Feed, Sink};
@@ -28,19 +28,22 @@ fn nodes(words: &TallyWords) -> u64
     workers * share + u64::from(words.buckets)
 }
 
-/// The report of what was tallied, where it has no more flows than it may have.
-fn answer_of(alloc: Global, tallied: &Tallied, limit: u32) -> Result<Answer, Status>
-    ensures { (contents ds : List (List ℕ)) → IsTalliedOf contents ds tallied.now → GivesText contents ds limit result }
+/// The report of what was gathered, where it has no more flows than it may have.
+fn answer_of(alloc: Global, gathered: &Gathered, limit: u32) -> Result<Answer, Status>
+    ensures { (contents ds : List (List ℕ)) → IsGatheredOf contents ds gathered.now → GivesText contents ds limit result }
 {
-    if tallied.flows.len() > limit as usize {
+    let Ok(flows) = fold(alloc, &gathered.pairs) else {
+        return Err(Status::NoMemory);
+    };
+    if flows.len() > limit as usize {
         return Err(Status::TooManyFlows { limit });
     }
-    let Ok(flows) = flows_of(alloc, &tallied.flows) else {
+    let Ok(flows) = flows_of(alloc, &flows) else {
         return Err(Status::NoMemory);
     };
     let totals = Totals {
-        records: tallied.records,
-        datagrams: tallied.datagrams,
+        records: gathered.pairs.len() as u64,
+        datagrams: gathered.datagrams,
     };
     match report(alloc, flows.as_slice(), &totals) {
         Ok(text) => Ok(Answer { text }),
@@ -58,8 +61,8 @@ fn tally_files<F: Feed>(alloc: Global, words: &TallyWords, feed: &mut F) -> Resu
     if nodes > MOST_NODES {
         return Err(Status::PlanTooLarge { nodes });
     }
-    let tallied = read_files(alloc, feed, &words.files)?;
-    answer_of(alloc, &tallied, words.flows)
+    let gathered = read_files(alloc, feed, &words.files)?;
+    answer_of(alloc, &gathered, words.flows)
 }
 
 /// Tallies the files, and writes the report once it is whole.

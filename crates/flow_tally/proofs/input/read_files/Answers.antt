@@ -5,16 +5,14 @@ use Rattle.std.proofs.lemmas.List.{length-map}
 use Rattle.flow_tally.specs.Input.{FeedShown, IsReadOut, feed_shown}
 use Rattle.flow_tally.specs.Reading.{AddsFile}
 use Rattle.flow_tally.proofs.Inputs.{none_so_far, file_so_far, all_so_far, file_refused}
-use Rattle.flow_tally.proofs.Tallies.{none_records}
 use Rattle.flow_tally.proofs.Lists.{get-map}
 use Rattle.flow_tally.proofs.input.read_files.Goals as goal
 
 pub loop-name-init : goal.loop-name-init
 loop-name-init g c = record {
-  read = none_so_far _ _ _ c.new-tallied.ensures;
+  read = none_so_far _ _ _ c.new-gathered.ensures;
   number = refl;
-  records = omega (arith, c.new-tallied.ensures.records, none_records);
-  datagrams = omega (arith, c.new-tallied.ensures.datagrams);
+  datagrams = omega (arith, c.new-gathered.ensures.datagrams);
   files = refl;
   out = record { last = λ none. absurd (omega arith); started = λ none. absurd (omega arith); none_left = λ none. absurd (omega arith); no_fault = refl; no_failure = refl };
 }
@@ -27,13 +25,15 @@ loop-name-preserved g c =
     let there : slice_get (map string_bytes c.args.files.now) index ≡ Some (string_bytes c.name-item.result) =
     get-map string_bytes c.args.files.now index c.name-item.result c.loop-name-test.true c.name-item.is in
     let number : c.in-Some.next ≡ index + 1 = omega (arith, c.in-Some.ensures, c.loop-name.invariant.number) in
-    let adds : AddsFile c.loop-name.left shown (string_bytes c.name-item.result) c.in-Some.next c.loop-name.tallied c.add_file.new.tallied (Ok c.in-Ok.n) =
-    subst (λ (p : FeedShown × List ℕ). AddsFile c.loop-name.left p.0 p.1 c.in-Some.next c.loop-name.tallied c.add_file.new.tallied (Ok c.in-Ok.n))
-    (λ i. (record shown { names = c.loop-name.invariant.files i; before = c.loop-name.invariant.out.no_fault i; failed_before = c.loop-name.invariant.out.no_failure i }, c.as_str.ensures.value i)) c.in-Ok.ensures.file in
+    let adds : AddsFile c.loop-name.left shown (string_bytes c.name-item.result) c.in-Some.next c.loop-name.gathered c.add_file.new.gathered (Ok c.in-Ok.n) =
+    subst (λ (p : FeedShown × List ℕ). AddsFile c.loop-name.left p.0 p.1 c.in-Some.next c.loop-name.gathered c.add_file.new.gathered (Ok c.in-Ok.n))
+    (λ i. (
+      record shown { names = c.loop-name.invariant.files i; before = c.loop-name.invariant.out.no_fault i; failed_before = c.loop-name.invariant.out.no_failure i },
+      c.as_str.ensures.value i,
+    )) c.in-Ok.ensures.file in
     record {
-      read = file_so_far shown _ index c.loop-name.left c.in-Ok.n _ c.in-Some.next c.loop-name.tallied c.add_file.new.tallied there c.loop-name.invariant.read adds;
+      read = file_so_far shown _ index c.loop-name.left c.in-Ok.n _ c.in-Some.next c.loop-name.gathered c.add_file.new.gathered there c.loop-name.invariant.read adds;
       number = number;
-      records = omega (arith, c.in-Ok.ensures.records, c.loop-name.invariant.records, c.in-Ok.ensures.file.0);
       datagrams = omega (arith, c.in-Ok.ensures.datagrams, c.loop-name.invariant.datagrams, c.in-Ok.ensures.file.0);
       files = c.in-Ok.ensures.files ∙ c.loop-name.invariant.files;
       out = subst (λ (n : ℕ). IsReadOut n shown) number adds.7;
@@ -46,11 +46,15 @@ returns-in-Err-clause-read g c =
     let shown = feed_shown F.files F.faults F.failed F.current F.started F.left c.args.feed.now c.add_file.new.feed in
     let there : slice_get (map string_bytes c.args.files.now) index ≡ Some (string_bytes c.name-item.result) =
     get-map string_bytes c.args.files.now index c.name-item.result c.loop-name-test.true c.name-item.is in
-    let adds : AddsFile c.loop-name.left shown (string_bytes c.name-item.result) c.in-Some.next c.loop-name.tallied c.add_file.new.tallied (Err c.in-Err.status) =
-    subst (λ (p : FeedShown × List ℕ). AddsFile c.loop-name.left p.0 p.1 c.in-Some.next c.loop-name.tallied c.add_file.new.tallied (Err c.in-Err.status))
-    (λ i. (record shown { names = c.loop-name.invariant.files i; before = c.loop-name.invariant.out.no_fault i; failed_before = c.loop-name.invariant.out.no_failure i }, c.as_str.ensures.value i)) c.in-Err.ensures.file in
-    file_refused shown _ index c.loop-name.left _ c.in-Some.next c.loop-name.tallied c.add_file.new.tallied c.in-Err.status there
+    let adds : AddsFile c.loop-name.left shown (string_bytes c.name-item.result) c.in-Some.next c.loop-name.gathered c.add_file.new.gathered (Err c.in-Err.status) =
+    subst (λ (p : FeedShown × List ℕ). AddsFile c.loop-name.left p.0 p.1 c.in-Some.next c.loop-name.gathered c.add_file.new.gathered (Err c.in-Err.status))
+    (λ i. (
+      record shown { names = c.loop-name.invariant.files i; before = c.loop-name.invariant.out.no_fault i; failed_before = c.loop-name.invariant.out.no_failure i },
+      c.as_str.ensures.value i,
+    )) c.in-Err.ensures.file in
+    file_refused shown _ index c.loop-name.left _ c.in-Some.next c.loop-name.gathered c.add_file.new.gathered c.in-Err.status there
     (omega (arith, c.in-Some.ensures, c.loop-name.invariant.number)) c.in-Err.ensures.current c.loop-name.invariant.read adds
 
 pub returns-clause-read : goal.returns-clause-read
-returns-clause-read g c = all_so_far _ _ c.loop-name.name-index c.loop-name.left c.loop-name.tallied (omega (arith, length-map c.args.files.now string_bytes, c.loop-name-test.false, c.loop-name.auto)) c.loop-name.invariant.read c.loop-name.invariant.out
+returns-clause-read g c = all_so_far _ _ c.loop-name.name-index c.loop-name.left c.loop-name.gathered
+    (omega (arith, length-map c.args.files.now string_bytes, c.loop-name-test.false, c.loop-name.auto)) c.loop-name.invariant.read c.loop-name.invariant.out

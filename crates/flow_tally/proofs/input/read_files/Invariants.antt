@@ -7,10 +7,9 @@ use Rattle.flow_tally.proofs.input.read_files.Given as goal
 
 abbrev pub invariant-loop-name : goal.invariant-loop-name
 invariant-loop-name g l = let F = g.F.Feed in record {
-  read : SoFar (F.files l.fn.feed) (map string_bytes l.files) l.name-index l.left l.tallied;
+  read : SoFar (F.files l.fn.feed) (map string_bytes l.files) l.name-index l.left l.gathered;
   number : l.file ≡ l.name-index;
-  records : l.tallied.records + l.left ≤ most_bytes;
-  datagrams : l.tallied.datagrams + l.left ≤ most_bytes;
+  datagrams : l.gathered.datagrams + l.left ≤ most_bytes;
   files : F.files l.feed ≡ F.files l.fn.feed;
   out : IsReadOut l.name-index (feed_shown F.files F.faults F.failed F.current F.started F.left l.fn.feed l.feed);
 }

@@ -1,4 +1,4 @@
-use Rattle.std.proofs.Common.{◌≡◌, ◌∙◌, Some, ap, arith}
+use Rattle.std.proofs.Common.{◌∙◌, Some, ap, arith}
 use Rattle.flow_tally.proofs.Digits.{none_read, number_read, too_small}
 use Rattle.flow_tally.proofs.numbers.number_within.Goals as goal
 

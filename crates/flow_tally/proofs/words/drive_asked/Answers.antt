@@ -23,7 +23,8 @@ returns c =
     let m = c.in-Ok-try_get_matches_from.matches in
     let f = found_of m in
     let ok = c.in-Ok-try_get_matches_from.ensures in
-    let whole = taken drive_from (fault_of a ws) (drive_faults ws) (drive_rows ws) (rows_of f) (drive_faults_are a ws is) (ok.kinds (free_drive _ is)) ((ok.matches (simple_drive _ is)).0 ∙ drive_rows_are a ws is) in
+    let whole = taken drive_from (fault_of a ws) (drive_faults ws) (drive_rows ws) (rows_of f) (drive_faults_are a ws is)
+    (ok.kinds (free_drive _ is)) ((ok.matches (simple_drive _ is)).0 ∙ drive_rows_are a ws is) in
     let b : c.number_in-buckets.result ≡ number_or 16 1 65536 (first_of (codes "buckets") (rows_of f)) =
     c.number_in-buckets.ensures.number ∙ ap (number_or 16 1 65536) (c.get_str.ensures ∙ first_value-rows f (codes "buckets")) in
     let q : c.number_in-share.result ≡ number_or 4096 1 65536 (first_of (codes "share") (rows_of f)) =

@@ -23,7 +23,8 @@ returns c =
     let m = c.in-Ok-try_get_matches_from.matches in
     let f = found_of m in
     let ok = c.in-Ok-try_get_matches_from.ensures in
-    let whole = taken tally_from (fault_of a ws) (tally_faults ws) (tally_rows ws) (rows_of f) (tally_faults_are a ws is) (ok.kinds (free_tally _ is)) ((ok.matches (simple_tally _ is)).0 ∙ tally_rows_are a ws is) in
+    let whole = taken tally_from (fault_of a ws) (tally_faults ws) (tally_rows ws) (rows_of f) (tally_faults_are a ws is)
+    (ok.kinds (free_tally _ is)) ((ok.matches (simple_tally _ is)).0 ∙ tally_rows_are a ws is) in
     let w : c.number_in-workers.result ≡ number_or 4 1 64 (first_of (codes "workers") (rows_of f)) =
     c.number_in-workers.ensures.number ∙ ap (number_or 4 1 64) (c.get_str.ensures ∙ first_value-rows f (codes "workers")) in
     let l : c.number_in-flows.result ≡ number_or 65536 1 1048576 (first_of (codes "flows") (rows_of f)) =

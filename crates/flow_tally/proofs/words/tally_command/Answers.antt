@@ -10,6 +10,7 @@ returns c =
     c.in_ok-arg.ensures.shape c.option.ensures.global ∙ ap₂ with_rule c.new.ensures.app c.option.ensures.rule in
     let two : app_of c.in_ok-arg-2.field-0 ≡ with_rule (with_rule (new_app (codes "tally")) (option_rule (codes "workers"))) (option_rule (codes "flows")) =
     c.in_ok-arg-2.ensures.shape c.option-2.ensures.global ∙ ap₂ with_rule one c.option-2.ensures.rule in
-    let three : app_of c.in_ok-arg-3.field-0 ≡ with_rule (with_rule (with_rule (new_app (codes "tally")) (option_rule (codes "workers"))) (option_rule (codes "flows"))) (option_rule (codes "buckets")) =
+    let three : app_of c.in_ok-arg-3.field-0 ≡ with_rule
+    (with_rule (with_rule (new_app (codes "tally")) (option_rule (codes "workers"))) (option_rule (codes "flows"))) (option_rule (codes "buckets")) =
     c.in_ok-arg-3.ensures.shape c.option-3.ensures.global ∙ ap₂ with_rule two c.option-3.ensures.rule in
     IfOk-weaker c.arg-4.result _ _ (λ m h. h.shape c.files.ensures.global ∙ ap₂ with_rule three c.files.ensures.rule) c.arg-4.ensures
