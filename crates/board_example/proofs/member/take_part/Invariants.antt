@@ -1,0 +1,5 @@
+use Rattle.board_example.specs.Rules.{Works}
+use Rattle.board_example.proofs.member.take_part.Given as goal
+
+abbrev pub invariant-loop-round : goal.invariant-loop-round
+invariant-loop-round l = Works l.shared l.member.seat l.member.yes l.member.torn

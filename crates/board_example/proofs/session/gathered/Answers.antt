@@ -1,0 +1,26 @@
+use Rattle.std.proofs.Common.{◌≡◌, ◌∷◌, ◌∙◌, All, subst, sym}
+use Rattle.std.proofs.lemmas.List.Elements.{All-head, All-tail}
+use Rattle.std.specs.Vec.Iter.{into_iter_items}
+use Rattle.board_example.specs.Rules.{Works}
+use Rattle.board_example.specs.declared.member.Member.{Member}
+use Rattle.board_example.proofs.session.gathered.Goals as goal
+
+pub loop-other-preserved : goal.loop-other-preserved
+loop-other-preserved c = (
+  c.gather.ensures.ours,
+  c.gather.ensures.kept,
+  All-tail (λ (one : Member). Works c.args.shared.now one.seat one.yes one.torn) c.in-Some.other (into_iter_items c.next-in-loop-other.new.self)
+      (subst (λ l. All (λ (one : Member). Works c.args.shared.now one.seat one.yes one.torn) l) c.in-Some.ensures.steps.0 c.loop-other.invariant.2),
+)
+
+pub loop-other-init : goal.loop-other-init
+loop-other-init c =
+    let P : Member → Type 0 = λ one. Works c.args.shared.now one.seat one.yes one.torn in
+    let rest = into_iter_items c.next.new.self in
+    let all : All P (c.in_ok-first.first ∷ rest) = subst (All P) (sym c.into_iter-members.ensures.rest ∙ c.in_ok-first.ensures.items) c.requires.ours in
+    let works = All-head P c.in_ok-first.first rest all in
+    (works.ready.ours, works.kept, subst (λ it. All P (into_iter_items it)) (sym c.into_iter-other-iterator.ensures.into_iter_gives) (All-tail P c.in_ok-first.first rest all))
+
+pub gather-requires-clause-theirs : goal.gather-requires-clause-theirs
+gather-requires-clause-theirs c = All-head (λ (one : Member). Works c.args.shared.now one.seat one.yes one.torn) c.in-Some.other (into_iter_items c.next-in-loop-other.new.self)
+    (subst (λ l. All (λ (one : Member). Works c.args.shared.now one.seat one.yes one.torn) l) c.in-Some.ensures.steps.0 c.loop-other.invariant.2)
