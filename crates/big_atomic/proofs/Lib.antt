@@ -1,8 +1,10 @@
 pub mod Answered
 pub mod Claimed
+pub mod Counting
 pub mod Deciding
 pub mod Exchanging
 pub mod Goings
+pub mod Lines
 pub mod Paid
 pub mod Preparing
 pub mod Reading

@@ -18,7 +18,7 @@ pub use answering::answer_now;
 pub use answers::{Stored, Swap};
 pub use claiming::claim_node;
 pub use holds::{hold, look, release_hold};
-pub use laws::{fresh_is_ready, quiet_is_ready, ready_is_quiet};
+pub use laws::{fresh_is_ready, line_counts, quiet_is_ready, ready_is_quiet};
 pub use loads::load;
 pub use seats::{join_all, split_all};
 pub use stores::store;
