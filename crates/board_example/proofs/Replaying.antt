@@ -1,10 +1,10 @@
 -- What our calls come to on the object of one thread.
-use Rattle.std.proofs.Common.{◌≡◌, ◌≢◌, ℕ, ◌+◌, ◌%◌, ◌^◌, ◌==◌, Bool, true, false, not, ◌&&◌, List, [], ◌∷◌, All, Option, Some, None, unwrap_or, cond}
+use Rattle.std.proofs.Common.{◌≡◌, ◌≢◌, ℕ, ◌+◌, ◌%◌, ◌^◌, ◌==◌, Bool, true, false, not, ◌&&◌, List, [], Option, Some, None, unwrap_or, cond}
 use Rattle.std.proofs.Common.{count_by, slice_index, refl, sym, ap, subst, ◌∙◌, arith, ⊎_elim, eqb, eq-eqb, ne_eqb}
-use Rattle.std.proofs.lemmas.Bool.{eqb-false, cases_Bool, true≢false}
-use Rattle.std.proofs.lemmas.List.Elements.{All-head, All-tail}
+use Rattle.std.proofs.lemmas.Bool.{eqb-false, cases_Bool}
 use Rattle.std.specs.Cmp.Lexicographic.{same_text}
-use Rattle.board_example.proofs.Counting.{count_cons}
+use Rattle.big_atomic.proofs.Counting.{count_push}
+use Rattle.big_atomic.specs.Lines.{EachKeeps}
 use Rattle.board_example.specs.Readings.{is_whole}
 use Rattle.board_example.specs.Rules.{IsNext, IsOurCall, IsOurs, is_torn, is_torn_call, is_yes, tells_yes}
 use Rattle.seat_history.specs.Contents.{set_at}
@@ -15,7 +15,7 @@ use Rattle.seat_history.specs.declared.call.Call.TheVariants.{Load, Store, Swap,
 use Rattle.seat_history.specs.declared.reply.Reply.{Reply}
 use Rattle.seat_history.specs.declared.reply.Reply.TheVariants.{Yes, No, Full}
 use Rattle.step_rules.specs.Lawful.{IsReply, is_full}
-use Rattle.step_rules.specs.Line.{Replays, after_stand, after_stands, log_after}
+use Rattle.step_rules.specs.Line.{after_stand}
 use Rattle.step_rules.specs.declared.plan.Plan.{Plan}
 use Rattle.seat_history.specs.declared.entry.Entry.{Entry}
 use Rattle.step_rules.specs.declared.view.Stand.{Stand}
@@ -28,12 +28,12 @@ pub record Good (o : Object) : Type 0 where
 abbrev pub counter_of : Object → ℕ
 counter_of o = slice_index (o.contents.registers 0) 0
 
-pub record Steps (o after : Object) (call : Call) (reply : Reply) : Type 0 where
+record Steps (o after : Object) (call : Call) (reply : Reply) : Type 0 where
   pub counter : counter_of after % 2 ^ 64 ≡ (counter_of o + cond (tells_yes reply) 1 0) % 2 ^ 64
   pub torn : is_torn_call call reply ≡ false
   pub good : Good after
 
-pub blank_good : Good blank_object
+blank_good : Good blank_object
 blank_good = record { registers = λ r _. refl; held = λ x. refl }
 
 held_same : (held : ℕ → Option (List ℕ)) (x : ℕ) (h : Option (List ℕ)) → ((k : ℕ) → is_whole (unwrap_or (held k) []) ≡ true)
@@ -126,22 +126,20 @@ answered : (p : Plan) (stock x : ℕ) (o : Object) (log : List Entry) (call : Ca
 answered p stock x o log call (Full need free) ours right good = record { counter = stays (counter_of o) (counter_of o) refl; torn = full_torn call need free; good = good }
 answered p stock x o log call reply ours right good = told x o call reply ours right good
 
-pub record Comes (o : Object) (line : List Stand) : Type 0 where
-  pub counter : counter_of (after_stands o line) % 2 ^ 64 ≡ (counter_of o + count_by is_yes line) % 2 ^ 64
-  pub torn : count_by is_torn line ≡ 0
-  pub good : Good (after_stands o line)
+-- how far the line has come: the counter is the number of Yes, no reading was torn, and the board is whole
+pub record Come (done : List Stand) (o : Object) : Type 0 where
+  pub counter : counter_of o % 2 ^ 64 ≡ count_by is_yes done % 2 ^ 64
+  pub torn : count_by is_torn done ≡ 0
+  pub good : Good o
 
-none_both : (b : Bool) (n m : ℕ) → b ≡ false → n ≡ 0 → m ≡ cond b 1 0 + n → m ≡ 0
-none_both true n m e none is = absurd (true≢false e)
-none_both false n m e none is = omega arith
+pub blank_come : Come [] blank_object
+blank_come = record { counter = refl; torn = refl; good = blank_good }
 
-pub replayed : (p : Plan) (o : Object) (log : List Entry) (line : List Stand) → All IsOurs line → Replays p o log line → Good o → Comes o line
-replayed p o log [] all replays good = record { counter = stays (counter_of o) (counter_of o) refl; torn = refl; good = good }
-replayed p o log (s ∷ r) all replays good =
-    let one : Steps o (after_stand o s) s.call s.reply = answered p s.stock s.by o log s.call s.reply (All-head IsOurs s r all) replays.0 good in
-    let rest = replayed p (after_stand o s) (log_after log o s) r (All-tail IsOurs s r all) replays.1 one.good in
+pub come_on : (p : Plan) → EachKeeps p IsOurs Come
+come_on p done o log s ours right come =
+    let one : Steps o (after_stand o s) s.call s.reply = answered p s.stock s.by o log s.call s.reply ours right come.good in
     record {
-      counter = omega (arith, one.counter, rest.counter, count_cons is_yes s r);
-      torn = none_both (is_torn s) (count_by is_torn r) (count_by is_torn (s ∷ r)) one.torn rest.torn (count_cons is_torn s r);
-      good = rest.good;
+      counter = omega (arith, one.counter, come.counter, count_push is_yes done s);
+      torn = count_push is_torn done s ∙ (ap (λ b. count_by is_torn done + cond b 1 0) one.torn ∙ omega (arith, come.torn));
+      good = one.good;
     }
