@@ -1,4 +1,4 @@
-use Rattle.std.proofs.Common.{◌≡◌, ◌∷◌, ◌∙◌, All, subst, sym}
+use Rattle.std.proofs.Common.{◌∷◌, ◌∙◌, All, subst, sym}
 use Rattle.std.proofs.lemmas.List.Elements.{All-head, All-tail}
 use Rattle.step_rules.specs.SeatData.{IsOf}
 use Rattle.std.specs.Vec.Iter.{into_iter_items}
