@@ -6,11 +6,12 @@ use Rattle.big_atomic.proofs.Answered.{MayEnd, answered_now, ended_back, goes_of
 use Rattle.big_atomic.proofs.Claimed.{looks_then, lost_longer, stepped_then}
 use Rattle.big_atomic.proofs.Goings.{goes_still, goes_then, looked_then}
 use Rattle.big_atomic.proofs.Paid.{exchanges-append, scan_loads-append}
-use Rattle.big_atomic.specs.Calling.{AreLooks, Goes, HasClaim, HasClaimed, HasSeen, IsLooked, OnlySteps}
+use Rattle.big_atomic.specs.Calling.{Goes, HasClaim, HasClaimed, HasSeen, OnlySteps}
 use Rattle.big_atomic.specs.Calls.{IsQuiet}
 use Rattle.big_atomic.specs.Ready.{IsReady}
 use Rattle.cache_hash.proofs.Walking.{Lost, Part, Way, come_way, moved_lost}
 use Rattle.cache_hash.specs.Calls.{IsFound, find_reply, value_at as value_here}
+use Rattle.cache_hash.specs.Finding.{Finding, KnowsValue}
 use Rattle.chain_links.proofs.Passing.{back_claim}
 use Rattle.chain_links.specs.Walking.{HasBack, HasCome, IsWalked}
 use Rattle.chain_links.specs.declared.answers.Walk.TheVariants.{Found, End, Moved}
@@ -41,18 +42,6 @@ use Rattle.step_rules.specs.declared.view.Counted.{Counted}
 use Rattle.step_rules.specs.declared.view.Kind.TheVariants.{ClaimClear}
 use Rattle.step_rules.specs.declared.view.Stand.{Stand}
 use Rattle.step_rules.specs.declared.view.View.{View}
-
--- looks and loads of a call on the cell, from its first look on
-pub record Finding (cell : ℕ) (before now : SeatData) : Type 0 where
-  pub steps : List Counted
-  pub look : ℕ
-  pub goes : (found : Option ℕ) → Goes cell found steps before now
-  pub looked : IsLooked cell steps look before now
-  pub looks : AreLooks steps
-  pub same : now ≡ stepped now.view before
-  pub retired : now.view.retired ≡ before.view.retired
-  pub hold : claim_of HOLD now.view ≡ claim_of HOLD before.view
-  pub own : claim_of OWN now.view ≡ claim_of OWN before.view
 
 pub finding_first : (cell word : ℕ) (before now : SeatData) → HasSeen BACK cell word before now → Finding cell before now
 finding_first cell word before now s = record {
@@ -300,17 +289,27 @@ module _ {shared : ObjectData} {key : KeyWords} {cell : ℕ} {before mid : SeatD
       let plan : now.view.plan ≡ mid.view.plan = ap (λ (z : View). z.plan) g.only ∙ ap (λ (z : View). z.plan) l.part.goes.only in
       let seats = ap (λ (p : Plan). p.seats * p.changes) plan in omega arith
 
-  pub may : (found : Option (List ℕ)) (walked cleared : SeatData) → Walked cell key found before walked → ClearsWalk walked cleared → Sound cleared.view → MayFind key found before cleared
-  may found walked cleared w clears sound =
-      let g : Goes cell None w.finding.steps before walked = w.finding.goes None in
-      let f = finding_cleared cell before walked cleared g.sound sound w.finding clears in record {
-        first = c.begun.law;
-        idle = c.begun.ready.idle;
-        some = subst (λ (p : Plan). 0 < p.buckets) (sym c.begun.ready.ours.plan) c.begun.some;
-        finding = subst (λ j. Finding j before cleared) own_cell f.0;
-        value = ap (λ (l : List Entry). (state_at l (length l)).values (key_number key)) f.2 ∙ w.value;
-        walk = f.1;
-      }
+  pub knows : {found : Option (List ℕ)} {now : SeatData} → Walked cell key found before now → KnowsValue shared key found before now
+  knows {now = now} w = record {
+    ready = c.begun.ready;
+    law = c.begun.law;
+    some = c.begun.some;
+    finding = subst (λ j. Finding j before now) own_cell w.finding;
+    value = w.value;
+  }
+
+pub may_end : {shared : ObjectData} {key : KeyWords} {found : Option (List ℕ)} {before now : SeatData} (cleared : SeatData) → KnowsValue shared key found before now → ClearsWalk now cleared
+    → Sound cleared.view → MayFind key found before cleared
+may_end {key = key} {before = before} {now = now} cleared k clears sound =
+    let g : Goes (key_cell before.view.plan (key_number key)) None k.finding.steps before now = k.finding.goes None in
+    let f = finding_cleared (key_cell before.view.plan (key_number key)) before now cleared g.sound sound k.finding clears in record {
+      first = k.law;
+      idle = k.ready.idle;
+      some = subst (λ (p : Plan). 0 < p.buckets) (sym k.ready.ours.plan) k.some;
+      finding = f.0;
+      value = ap (λ (l : List Entry). (state_at l (length l)).values (key_number key)) f.2 ∙ k.value;
+      walk = f.1;
+    }
 
 pub of_may : {shared : ObjectData} {key : KeyWords} {found : Option (List ℕ)} {before now : SeatData} → IsReady shared before → MayFind key found before now → IsOf shared now
 of_may ready m = of_finding ready m.finding

@@ -1,7 +1,9 @@
 //! Finds.
-ghost use Rattle.std.specs.Prelude.{◌<◌};
+ghost use Rattle.std.specs.Prelude.{◌<◌, ◌≡◌};
 ghost use Rattle.big_atomic.specs.Ready.{IsReady};
-ghost use Rattle.cache_hash.specs.Calls.{IsFound};
+ghost use Rattle.cache_hash.specs.Calls.{IsFound, find_reply};
+ghost use Rattle.cache_hash.specs.Finding.{KnowsValue};
+ghost use Rattle.step_rules.specs.SeatData.{SeatData};
 
 use big_atomic::{answer_now, claim_node};
 use chain_links::{Walk, walk};
@@ -25,20 +27,37 @@ pub fn find(shared: &Shared, seat: &mut Seat, key: KeyWords) -> Option<ValWords>
     'turns: loop {
         match walk(shared, seat, cell, key) {
             Walk::Found { at: _, val } => {
-                clear_walk(shared, seat);
-                seat.law();
-                answer_now(shared, seat, Call::Find { key }, Reply::Val(val));
+                answer_find(shared, seat, key, Some(val));
                 return Some(val);
             }
             Walk::End { length: _ } => {
-                clear_walk(shared, seat);
-                seat.law();
-                answer_now(shared, seat, Call::Find { key }, Reply::Absent);
+                answer_find(shared, seat, key, None);
                 return None;
             }
             Walk::Moved => {
                 claim_node(shared, seat, Claim::Back, cell);
             }
         }
+    }
+}
+
+// Clears Walk and Back, and adds the find's stand at the end of what the seat has seen.
+fn answer_find(shared: &Shared, seat: &mut Seat, key: KeyWords, found: Option<ValWords>)
+    requires past { (before : SeatData) × KnowsValue shared.now key found before seat.old }
+    ensures ends { (before : SeatData) → KnowsValue shared.now key found before seat.old
+        → IsReady shared.now seat.new × IsFound key found before seat.new }
+{
+    clear_walk(shared, seat);
+    seat.law();
+    answer_now(shared, seat, Call::Find { key }, reply_of(found));
+}
+
+// The reply to a find.
+fn reply_of(found: Option<ValWords>) -> Reply
+    ensures { result ≡ find_reply found }
+{
+    match found {
+        Some(val) => Reply::Val(val),
+        None => Reply::Absent,
     }
 }

@@ -1,6 +1,6 @@
-use Rattle.std.proofs.Common.{◌+◌, Some, None, arith}
-use Rattle.cache_hash.proofs.Finding.{back_there, begins, begins_inside, begins_low, claimed_again, claimed_first, fewer, find_ready, finds_none, finds_value}
-use Rattle.cache_hash.proofs.Finding.{found_now, inside, loses, lost_finding, may, may_find, of_finding, of_may}
+use Rattle.std.proofs.Common.{◌+◌, arith}
+use Rattle.cache_hash.proofs.Finding.{back_there, begins, begins_inside, begins_low, claimed_again, claimed_first, fewer, finds_none, finds_value, inside}
+use Rattle.cache_hash.proofs.Finding.{knows, loses, lost_finding, of_finding}
 use Rattle.cache_hash.proofs.finds.find.Goals as goal
 
 pub overflow_add-cell : goal.overflow_add-cell
@@ -23,51 +23,21 @@ walk-requires-clause-ours c = of_finding c.requires.ready c.turns.invariant.find
 pub walk-requires-clause-back : goal.walk-requires-clause-back
 walk-requires-clause-back c = back_there c.turns.invariant
 
-pub clear_walk-requires : goal.clear_walk-requires
-clear_walk-requires c = record { ours = of_finding c.requires.ready (finds_value c.turns.invariant c.in-Found.at c.in-Found.val c.walk.new.seat c.in-Found.ensures.walked).finding }
+pub answer_find-requires : goal.answer_find-requires
+answer_find-requires c = record { past = (c.args.seat.now, knows c.turns.invariant (finds_value c.turns.invariant c.in-Found.at c.in-Found.val c.walk.new.seat c.in-Found.ensures.walked)) }
 
-pub answer_now-requires-clause-ours : goal.answer_now-requires-clause-ours
-answer_now-requires-clause-ours c = of_may c.requires.ready
-    (may c.turns.invariant (Some c.in-Found.val) c.walk.new.seat c.clear_walk.new.seat (finds_value c.turns.invariant c.in-Found.at c.in-Found.val c.walk.new.seat c.in-Found.ensures.walked)
-    c.clear_walk.ensures.cleared c.law-in-Found.ensures.sound)
+pub returns-in-Found : goal.returns-in-Found
+returns-in-Found c =
+    let k = knows c.turns.invariant (finds_value c.turns.invariant c.in-Found.at c.in-Found.val c.walk.new.seat c.in-Found.ensures.walked) in
+    let both = c.answer_find.ensures.ends c.args.seat.now k in record { ready = both.0; found = both.1 }
 
-pub answer_now-requires-clause-may : goal.answer_now-requires-clause-may
-answer_now-requires-clause-may c = may_find
-    (may c.turns.invariant (Some c.in-Found.val) c.walk.new.seat c.clear_walk.new.seat (finds_value c.turns.invariant c.in-Found.at c.in-Found.val c.walk.new.seat c.in-Found.ensures.walked)
-    c.clear_walk.ensures.cleared c.law-in-Found.ensures.sound)
+pub answer_find-requires-in-End : goal.answer_find-requires-in-End
+answer_find-requires-in-End c = record { past = (c.args.seat.now, knows c.turns.invariant (finds_none c.turns.invariant c.in-End.length c.walk.new.seat c.in-End.ensures.walked)) }
 
-pub returns-in-Found-clause-ready : goal.returns-in-Found-clause-ready
-returns-in-Found-clause-ready c = find_ready
-    (may c.turns.invariant (Some c.in-Found.val) c.walk.new.seat c.clear_walk.new.seat (finds_value c.turns.invariant c.in-Found.at c.in-Found.val c.walk.new.seat c.in-Found.ensures.walked)
-    c.clear_walk.ensures.cleared c.law-in-Found.ensures.sound) c.args.shared.now c.answer_now.new.seat c.requires.ready c.answer_now.ensures.seat
-
-pub returns-in-Found-clause-found : goal.returns-in-Found-clause-found
-returns-in-Found-clause-found c = found_now
-    (may c.turns.invariant (Some c.in-Found.val) c.walk.new.seat c.clear_walk.new.seat (finds_value c.turns.invariant c.in-Found.at c.in-Found.val c.walk.new.seat c.in-Found.ensures.walked)
-    c.clear_walk.ensures.cleared c.law-in-Found.ensures.sound) c.answer_now.new.seat c.answer_now.ensures.seat c.answer_now.ensures.law
-
-pub clear_walk-requires-in-End : goal.clear_walk-requires-in-End
-clear_walk-requires-in-End c = record { ours = of_finding c.requires.ready (finds_none c.turns.invariant c.in-End.length c.walk.new.seat c.in-End.ensures.walked).finding }
-
-pub answer_now-requires-in-End-clause-ours : goal.answer_now-requires-in-End-clause-ours
-answer_now-requires-in-End-clause-ours c = of_may c.requires.ready
-    (may c.turns.invariant None c.walk.new.seat c.clear_walk-in-End.new.seat (finds_none c.turns.invariant c.in-End.length c.walk.new.seat c.in-End.ensures.walked) c.clear_walk-in-End.ensures.cleared
-    c.law-in-End.ensures.sound)
-
-pub answer_now-requires-in-End-clause-may : goal.answer_now-requires-in-End-clause-may
-answer_now-requires-in-End-clause-may c = may_find
-    (may c.turns.invariant None c.walk.new.seat c.clear_walk-in-End.new.seat (finds_none c.turns.invariant c.in-End.length c.walk.new.seat c.in-End.ensures.walked) c.clear_walk-in-End.ensures.cleared
-    c.law-in-End.ensures.sound)
-
-pub returns-in-End-clause-ready : goal.returns-in-End-clause-ready
-returns-in-End-clause-ready c = find_ready
-    (may c.turns.invariant None c.walk.new.seat c.clear_walk-in-End.new.seat (finds_none c.turns.invariant c.in-End.length c.walk.new.seat c.in-End.ensures.walked) c.clear_walk-in-End.ensures.cleared
-    c.law-in-End.ensures.sound) c.args.shared.now c.answer_now-in-End.new.seat c.requires.ready c.answer_now-in-End.ensures.seat
-
-pub returns-in-End-clause-found : goal.returns-in-End-clause-found
-returns-in-End-clause-found c = found_now
-    (may c.turns.invariant None c.walk.new.seat c.clear_walk-in-End.new.seat (finds_none c.turns.invariant c.in-End.length c.walk.new.seat c.in-End.ensures.walked) c.clear_walk-in-End.ensures.cleared
-    c.law-in-End.ensures.sound) c.answer_now-in-End.new.seat c.answer_now-in-End.ensures.seat c.answer_now-in-End.ensures.law
+pub returns-in-End : goal.returns-in-End
+returns-in-End c =
+    let k = knows c.turns.invariant (finds_none c.turns.invariant c.in-End.length c.walk.new.seat c.in-End.ensures.walked) in
+    let both = c.answer_find-in-End.ensures.ends c.args.seat.now k in record { ready = both.0; found = both.1 }
 
 pub claim_node-requires-in-Moved-clause-ours : goal.claim_node-requires-in-Moved-clause-ours
 claim_node-requires-in-Moved-clause-ours c = of_finding c.requires.ready (lost_finding c.turns.invariant c.walk.new.seat (loses c.turns.invariant c.walk.new.seat c.in-Moved.ensures.walked))
