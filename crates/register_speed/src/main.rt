@@ -3,7 +3,7 @@
 
 mod speed;
 
-use speed::{Asked, run};
+use speed::{Asked, Outcome, run};
 use std::{env, io};
 
 const USAGE: &str = "register_speed THREADS REGISTERS CALLS SHARE store|load";
@@ -35,7 +35,7 @@ fn main(rt: HostRuntime) -> io::Result<()> {
     let Some(asked) = read_words(&words) else {
         return println!(rt; "{USAGE}");
     };
-    let Some(done) = run(&rt, rt.alloc(), &asked)? else {
+    let Some(Outcome { done, .. }) = run(&rt, rt.alloc(), &asked)? else {
         return println!(rt; "no room for the object");
     };
     let kind = if asked.stores { "store" } else { "load" };

@@ -1,11 +1,12 @@
 //! Threads that store and load.
-ghost use Rattle.std.specs.Prelude.{◌≡◌, All, IfOk, IfSome};
+ghost use Rattle.std.specs.Prelude.{◌≡◌, ◌+◌, ◌≤◌, All, IfOk, IfSome};
 ghost use Rattle.big_atomic.specs.Ready.{IsReady};
 ghost use Rattle.big_atomic.specs.Seats.{IsUnused};
+ghost use Rattle.register_speed.specs.Counting.{HasCalled, HasCounted, HasGone, IsAsked, IsEnding};
 ghost use Rattle.step_rules.specs.Layout.{IsPlan};
 ghost use Rattle.step_rules.specs.SeatData.{IsOf};
 
-use big_atomic::{Plan, Seat, Shared, Stored, WIDTH, build, load, split_all, store};
+use big_atomic::{Closed, Plan, Seat, Shared, Stored, WIDTH, build, load, split_all, store};
 use std::alloc::{AllocError, Global};
 use std::thread;
 use std::thread::Threads;
@@ -22,7 +23,9 @@ pub(crate) struct Asked {
 
 impl Asked {
     /// None where a number is out of its range.
-    pub(crate) fn of(numbers: [u32; 4], stores: bool) -> Option<Asked> {
+    pub(crate) fn of(numbers: [u32; 4], stores: bool) -> Option<Asked>
+        ensures asked { IfSome result (λ asked. IsAsked numbers stores asked.plan asked.calls asked.stores) }
+    {
         let [seats, registers, calls, share] = numbers;
         if seats == 0 || seats > 64 || registers == 0 || registers > 64 {
             return None;
@@ -53,12 +56,21 @@ struct Ran {
     done: u64,
 }
 
-/// How many calls were made, with Done at a store.
+/// The closed object, and how many calls were made, with Done at a store.
+#[derive(Drop)]
+pub(crate) struct Outcome {
+    pub(crate) closed: Closed,
+    pub(crate) done: u64,
+}
+
+/// All seats make their calls, and the object is closed. So many of its stands were made.
 pub(crate) fn run<R: Threads + Sync>(
     rt: &R,
     alloc: Global,
     asked: &Asked,
-) -> Result<Option<u64>, AllocError> {
+) -> Result<Option<Outcome>, AllocError>
+    ensures { IfOk result (λ told. IfSome told (λ outcome. IsEnding asked.now.plan asked.now.stores outcome.closed outcome.done)) }
+{
     let Ok((shared, seat)) = build(alloc, &asked.plan) else {
         return Ok(None);
     };
@@ -66,38 +78,52 @@ pub(crate) fn run<R: Threads + Sync>(
         return Ok(None);
     };
     let ran = thread::map_vec(rt, seats, &|seat| calls(&shared, seat, asked))?;
-    let Some(Ran { seat, done }) = gathered(&shared, ran) else {
+    let Some(ran) = gathered(&shared, ran, asked.stores) else {
         return Ok(None);
     };
+    Ok(finish(shared, ran, asked.stores))
+}
+
+// Closes the object, where all seats are in this one, and it is quiet.
+fn finish(shared: Shared, ran: Ran, stores: bool) -> Option<Outcome>
+    requires ours { IsOf shared ran.seat }
+    requires counted { HasCounted stores ran.seat.view.stands ran.done }
+    ensures { IfSome result (λ outcome. IsEnding shared.plan stores outcome.closed outcome.done) }
+{
+    let Ran { seat, done } = ran;
     if seat.numbers() != shared.plan().seats || !seat.quiet() {
-        return Ok(None);
+        return None;
     }
-    shared.close(seat);
-    Ok(Some(done))
+    let closed = shared.close(seat);
+    Some(Outcome { closed, done })
 }
 
 // Joins all seats into the first one, and adds up their calls.
-fn gathered(shared: &Shared, ran: Vec<Ran>) -> Option<Ran>
-    requires ours { All (λ one. IsOf shared.now one.seat) ran.items }
+fn gathered(shared: &Shared, ran: Vec<Ran>, stores: bool) -> Option<Ran>
+    requires ours { All (λ one. IsOf shared.now one.seat × HasCounted stores one.seat.view.stands one.done) ran.items }
     ensures ours { IfSome result (λ one. IsOf shared.now one.seat) }
+    ensures counted { IfSome result (λ one. HasCounted stores one.seat.view.stands one.done) }
 {
     let mut ran = ran.into_iter();
     let mut first = ran.next()?;
     for other in ran {
-        gather(shared, &mut first.seat, other.seat);
-        first.done = first.done.wrapping_add(other.done);
+        gather(shared, &mut first, other, stores);
     }
     Some(first)
 }
 
-// Takes a seat into the first one, where both are quiet.
-fn gather(shared: &Shared, first: &mut Seat, other: Seat)
-    requires ours { IsOf shared.now first.old }
-    requires theirs { IsOf shared.now other }
-    ensures ours { IsOf shared.now first.new }
+// Takes a seat into the first one, and its calls, where both are quiet.
+fn gather(shared: &Shared, first: &mut Ran, other: Ran, stores: bool)
+    requires ours { IsOf shared.now first.old.seat }
+    requires counted { HasCounted stores first.old.seat.view.stands first.old.done }
+    requires theirs { IsOf shared.now other.seat × HasCounted stores other.seat.view.stands other.done }
+    ensures ours { IsOf shared.now first.new.seat }
+    ensures counted { HasCounted stores first.new.seat.view.stands first.new.done }
 {
-    if first.is_first() && first.quiet() && other.quiet() {
-        shared.join(first, other);
+    let Ran { seat, done } = other;
+    if first.seat.is_first() && first.seat.quiet() && seat.quiet() {
+        shared.join(&mut first.seat, seat);
+        first.done = first.done.wrapping_add(done);
     }
 }
 
@@ -105,12 +131,15 @@ fn gather(shared: &Shared, first: &mut Seat, other: Seat)
 fn calls(shared: &Shared, mut seat: Seat, asked: &Asked) -> Ran
     requires unused { IsUnused shared.now seat }
     ensures ours { IsOf shared.now result.seat }
+    ensures counted { HasCounted asked.now.stores result.seat.view.stands result.done }
+    ensures gone { HasGone shared.now.plan asked.now.calls asked.now.calls result.seat }
 {
     let mut done = 0u64;
     for i in 0..asked.calls {
-        if call(shared, &mut seat, asked.stores, i) {
-            done = done.wrapping_add(1);
+        if !call(shared, &mut seat, asked.stores, i) {
+            continue;
         }
+        done = done.wrapping_add(1);
     }
     Ran { seat, done }
 }
@@ -119,6 +148,8 @@ fn calls(shared: &Shared, mut seat: Seat, asked: &Asked) -> Ran
 fn call(shared: &Shared, seat: &mut Seat, stores: bool, i: u32) -> bool
     requires ready { IsReady shared.now seat.old }
     ensures ready { IsReady shared.now seat.new }
+    ensures called { HasCalled stores shared.now.plan i seat.old seat.new result }
+    ensures spent { seat.old.view.changes ≤ seat.new.view.changes + 1 }
 {
     let registers = shared.plan().registers;
     if registers == 0 {
