@@ -3,6 +3,7 @@ pub mod Encoding
 pub mod Fault
 pub mod Field
 pub mod File
+pub mod Generating
 pub mod Header
 pub mod Next
 pub mod Ranges

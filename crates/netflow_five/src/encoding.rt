@@ -75,7 +75,7 @@ fn add_network(bytes: &mut Vec<u8>, flow: &FlowRecord) -> Result<(), AllocError>
 
 /// A record. Its numbers are in range, so its bytes read back.
 #[tactic(auto, unfolding(crate::specs::Encoding::record_bytes))]
-fn add_record(bytes: &mut Vec<u8>, flow: &FlowRecord) -> Result<(), AllocError>
+pub(crate) fn add_record(bytes: &mut Vec<u8>, flow: &FlowRecord) -> Result<(), AllocError>
     ensures added { OnOk result (bytes.new.items ≡ bytes.old.items ++ record_bytes flow.now) }
     ensures read_back { OnOk result (record_of (record_bytes flow.now) ≡ flow.now) }
 {
@@ -110,7 +110,7 @@ fn add_exporter(bytes: &mut Vec<u8>, header: &Header) -> Result<(), AllocError>
 
 /// The header of a datagram with so many records. Its numbers are in range, so its bytes read back.
 #[tactic(auto, unfolding(crate::specs::Encoding::header_bytes))]
-fn add_header(bytes: &mut Vec<u8>, header: &Header, count: u16) -> Result<(), AllocError>
+pub(crate) fn add_header(bytes: &mut Vec<u8>, header: &Header, count: u16) -> Result<(), AllocError>
     ensures added { OnOk result (bytes.new.items ≡ bytes.old.items ++ header_bytes header.now count) }
     ensures read_back { OnOk result (header_of (header_bytes header.now count) ≡ header.now) }
 {
