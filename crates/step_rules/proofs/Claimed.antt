@@ -210,8 +210,8 @@ module _ {p : Plan} {W : World} {id : ℕ} {v : View} {c : ℕ} {x : Claim} (t :
   }
 
   -- the seat's claim is x then, and nothing else changes that the rule speaks of but the counted steps
-  pub turned_seat : (links : List ℕ) (trail : List Counted) → IsTrail v.since trail v.seen → SeatOk p turned id (record v { claims = set v.claims c x; links = links; trail = trail })
-  turned_seat links trail counts = record {
+  pub turned_seat : (trail : List Counted) → IsTrail v.since trail v.seen → SeatOk p turned id (record v { claims = set v.claims c x; trail = trail })
+  turned_seat trail counts = record {
     plan = t.ok.plan;
     numbers = t.ok.numbers;
     nodes = t.ok.nodes;
@@ -230,15 +230,15 @@ abbrev pub with_claim : Unwritten → ℕ → Claim → Unwritten
 with_claim U w x = record U { guard = set_at U.guard w (stood_in x) }
 
 -- the claim c becomes x: of a view that the seat has, or has with what it sees by this step, its word being in the words by then
-pub turn : (m : Moment) (ws : List ℕ) (links : List ℕ) (trail : List Counted) {view : View} {c : ℕ} {x : Claim} (t : MayTurn m.view.plan (world m) m.id view c x)
+pub turn : (m : Moment) (ws : List ℕ) (trail : List Counted) {view : View} {c : ℕ} {x : Claim} (t : MayTurn m.view.plan (world m) m.id view c x)
     → IsTrail view.since trail view.seen
     → view.changes ≡ m.view.changes → length ws ≡ words m.view.plan → world_of m.view.plan ws (with_claim m.unwritten (claim_at (number view) c) x) ≡ turned t
-    → Made m ws (record view { claims = set view.claims c x; links = links; trail = trail })
-turn m ws links trail {view = view} {c = c} {x = x} t counts changes wide is =
-    advance m ws (with_claim m.unwritten (claim_at (number view) c) x) (turned t) [] (record view { claims = set view.claims c x; links = links; trail = trail }) (record {
+    → Made m ws (record view { claims = set view.claims c x; trail = trail })
+turn m ws trail {view = view} {c = c} {x = x} t counts changes wide is =
+    advance m ws (with_claim m.unwritten (claim_at (number view) c) x) (turned t) [] (record view { claims = set view.claims c x; trail = trail }) (record {
       is = is;
       wide = wide;
-      own = turned_seat t links trail counts;
+      own = turned_seat t trail counts;
       others = turned_leaves t;
       cells = turned_cells t m.rule.cells;
       guards = turned_guards t m.rule.guards;

@@ -36,6 +36,11 @@ dropped_within n (put new) h = grind arith
 dropped_within n (r.set i new) h = grind arith
 dropped_within n (out i) h = grind (arith, eqb-true i 0, eqb-true n 1)
 
+pub dropped_some : (n : ℕ) (e : Edit) → 0 < dropped_count n e
+dropped_some n (put new) = omega arith
+dropped_some n (r.set i new) = omega arith
+dropped_some n (out i) = grind (arith, eqb-true i 0, eqb-true n 1)
+
 -- without one node, and then the others
 pub without_one : (n : ℕ) (ns : List ℕ) (own : List Held) → without_all (n ∷ ns) own ≡ without_all ns (without n own)
 without_one n ns [] = refl

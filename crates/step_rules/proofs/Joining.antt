@@ -149,6 +149,8 @@ module _ {s o : Inside} {after : Me Call View} (m : Merged s o after) where
       room_free = omega (arith, room_is, t.room_free, more_free);
       room_holding = omega (arith, room_is, t.room_holding);
       room_retired = omega (arith, room_is, t.room_retired, more_retired);
+      room_noted = omega (arith, room_is, t.room_noted);
+      few_noted = t.few_noted;
       fresh = λ no. absurd (false≢true no);
     }
 

@@ -20,6 +20,7 @@ pub mod LastInserts
 pub mod Lawfuls
 pub mod Lines
 pub mod Moments
+pub mod Notes
 pub mod OneOrder
 pub mod Opens
 pub mod Ordering

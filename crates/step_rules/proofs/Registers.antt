@@ -20,11 +20,9 @@ use Rattle.step_rules.proofs.RecordsTell.{register_records}
 use Rattle.step_rules.specs.Cells.{register_chain}
 use Rattle.step_rules.specs.Claims.{BACK, IsClaim, OWN, On}
 use Rattle.step_rules.specs.History.{IsThere, IsWide, cell_of}
-use Rattle.step_rules.specs.Kinds.Backup.{DropsFirst, MayExchange}
+use Rattle.step_rules.specs.Kinds.Backup.{MayExchange}
 use Rattle.step_rules.specs.Records.{edit_of, fresh_records, is_change_in, record_in, records_at, records_of, removes_of}
-use Rattle.step_rules.specs.SeatData.{SeatData}
 use Rattle.step_rules.specs.Sound.{Sound}
-use Rattle.step_rules.specs.Steps.{HoldsFront}
 use Rattle.step_rules.specs.Views.{claimed_edit, claimed_pages, claimed_records, fresh_of, kept_of, silent, words_in}
 use Rattle.step_rules.specs.World.{END, Linked, Once, has, link, next_of, nodes_of}
 use Rattle.step_rules.specs.declared.layout.TheConstants.{NODE_WIDTH}
@@ -153,14 +151,3 @@ module _ (k x n : ℕ) (v : View) (sound : Sound v) where
   may_change (Insert key val) may = absurd (let l = may.register in let o = may.on in omega arith)
   may_change (Replace key old new) may = absurd (let l = may.register in let o = may.on in omega arith)
   may_change (Remove key) may = absurd (let l = may.register in let o = may.on in omega arith)
-
--- a change of a register puts in the one held node, and the claimed one falls out
-pub register_front : (k n : ℕ) (call : Call) (seat : SeatData) → k < seat.view.plan.registers → cell_of seat.view.plan call ≡ k → is_change_in (claimed_records seat.view) call ≡ true
-    → seat.holding ≡ n ∷ []
-    → HoldsFront n call seat × DropsFirst call seat.view
-register_front k n (Store reg new) seat inside on changes held = (λ m. ap (λ l. has l m) held, refl)
-register_front k n (Swap reg old new) seat inside on changes held = (λ m. ap (λ l. has l m) held, refl)
-register_front k n (Insert key val) seat inside on changes held = absurd (omega arith)
-register_front k n (Replace key old new) seat inside on changes held = absurd (omega arith)
-register_front k n (Remove key) seat inside on changes held = absurd (omega arith)
-register_front k n _ seat inside on changes held = absurd (false≢true changes)

@@ -133,11 +133,11 @@ last_word p q w same is = subst (λ (z : Plan). suc w ≡ CLAIMS * z.seats) same
 pub scanned_last : (s : Inside) (inner : Seat Call View) (free : List ℕ) (w x : ℕ) (old : SeatData) → data_of s ≡ old → inner.table_id ≡ s.inner.table_id
     → suc w ≡ CLAIMS * s.inner.me.0.plan.seats → Frees w x s.inner.me.0 inner.me.0
     → free ≡ s.free.items ++ filter (is_freed (scanned_view w x s.inner.me.0).scan) s.inner.me.0.retired
-    → IsScanned w x old (record { object = inner.table_id; view = inner.me.0; free = free; holding = s.holding.items; first = s.first; fresh = false })
+    → IsScanned w x old (record (data_of s) { object = inner.table_id; view = inner.me.0; free = free; fresh = false })
 scanned_last s inner free w x old is same last frees freed =
-    subst (λ (d : SeatData). IsScanned w x d (record { object = inner.table_id; view = inner.me.0; free = free; holding = s.holding.items; first = s.first; fresh = false })) is (record {
+    subst (λ (d : SeatData). IsScanned w x d (record (data_of s) { object = inner.table_id; view = inner.me.0; free = free; fresh = false })) is (record {
       on = λ lt. absurd (omega arith);
       frees = λ _. frees;
       freed = λ _. freed;
-      same = λ i. record { object = same i; view = inner.me.0; free = free; holding = s.holding.items; first = s.first; fresh = false };
+      same = λ i. record (data_of s) { object = same i; view = inner.me.0; free = free; fresh = false };
     })

@@ -133,6 +133,10 @@ module _ (m : Moment) (kind : Kind) (k : ℕ) (inside : k < cells m.view.plan) w
   pub sees_moved : (l : Look) → v.look ≡ Some l → l.cell ≡ k → x / 2 ≢ l.word / 2 → ¬ NoneOn p k (drop l.at log)
   sees_moved l e on ne none = ne (ap (λ j. backup_word p m.ws j / 2) (sym on) ∙ ((seat m).look.holds l e).same (subst (λ j. NoneOn p j (drop l.at log)) (sym on) none))
 
+  -- and the mark at most cleared, where there is none
+  pub sees_falls : (l : Look) → v.look ≡ Some l → l.cell ≡ k → NoneOn p k (drop l.at log) → x ≤ l.word
+  sees_falls l e on none = subst (λ j. backup_word p m.ws j ≤ l.word) on (((seat m).look.holds l e).falls (subst (λ j. NoneOn p j (drop l.at log)) (sym on) none))
+
   pub sees_told : Looks kind k x v seeing
   sees_told = let o = seat m in record {
     log = log;
@@ -140,7 +144,7 @@ module _ (m : Moment) (kind : Kind) (k : ℕ) (inside : k < cells m.view.plan) w
     rest = o.seen.rest;
     seen = o.seen.whole;
     moved = sees_moved;
-    falls = λ l e on none. subst (λ j. backup_word p m.ws j ≤ l.word) on ((o.look.holds l e).falls (subst (λ j. NoneOn p j (drop l.at log)) (sym on) none));
+    falls = sees_falls;
     calm = λ c n y e tells stands on same. subst (λ j. NoneOn p j (drop y.at log)) on (o.claims.calm c n y e tells stands (ap (λ j. backup_word p m.ws j / 2) on ∙ same));
   }
 

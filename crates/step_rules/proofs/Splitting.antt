@@ -139,6 +139,7 @@ module _ (s : Inside) (tied : Ties s) (unused : s.fresh ≡ true) (more : 1 < le
     changes = omega (arith, whole.2, fresh.changes, one_less v.plan.changes);
     removes = omega (arith, whole.3, fresh.removes, one_less v.plan.removes);
     retired = whole.4 ∙ fresh.retired;
+    few_noted = tied.few_noted;
     claims = tied.claims ∙ ap (map (λ (x : Claim). x.word)) fresh.claims;
     scan_next = scan.next_is ∙ ap (λ (z : Scan). z.next) fresh.scan;
     scan_old = let within = scan.old_within in omega arith;
@@ -146,6 +147,7 @@ module _ (s : Inside) (tied : Ties s) (unused : s.fresh ≡ true) (more : 1 < le
     room_free = omega (arith, room_less s.first, tied.room_free, same_room);
     room_holding = omega (arith, room_less s.first, tied.room_holding);
     room_retired = omega (arith, room_less s.first, tied.room_retired);
+    room_noted = omega (arith, room_less s.first, tied.room_noted);
     room_found = scan.room;
   }
 

@@ -1,5 +1,5 @@
 -- What ties a seat's own numbers and lists to its view, and what its steps leave of it.
-use Rattle.std.proofs.Common.{◌≡◌, ◌≢◌, ℕ, ◌+◌, ◌*◌, ◌/◌, ◌<◌, ◌≤◌, Bool, true, false, List, [], ◌∷◌, ◌++◌, Vec, Global, vec_capacity, is_some}
+use Rattle.std.proofs.Common.{◌≡◌, ◌≢◌, ℕ, ◌+◌, ◌*◌, ◌/◌, ◌^◌, ◌<◌, ◌≤◌, Bool, true, false, List, [], ◌∷◌, ◌++◌, Vec, Global, vec_capacity, is_some}
 use Rattle.std.proofs.Common.{length, length-append, map, cond, get_or, set}
 use Rattle.std.proofs.Common.{take, replicate, append-nil, mul-le-mul_left, refl, sym, ap, ◌∙◌, ⊎_elim, inl, subst, arith}
 use Rattle.std.proofs.Math.Seq.{map-set_same}
@@ -112,7 +112,8 @@ exchange_there k x n call v sound may = let told = sound.claims.told BACK (x / 2
 
 -- what ties the fields of a seat to its view, as its invariant says it, where its inner seat is this
 abbrev pub TiesAt : Inside → Me Call View → Type 0
-TiesAt s me = IsTied me s.numbers s.first s.fresh s.holds_record s.free.items s.holding.items s.claims (vec_capacity s.free) (vec_capacity s.holding) (vec_capacity s.retired)
+TiesAt s me = IsTied me s.numbers s.first s.fresh s.holds_record s.free.items s.holding.items s.noted.items s.claims (vec_capacity s.free) (vec_capacity s.holding)
+    (vec_capacity s.retired) (vec_capacity s.noted)
 
 abbrev pub WholeAt : Inside → Me Call View → Type 0
 WholeAt s me = TiesAt s me × (s.least ≡ number me.0) × (s.changes ≡ me.0.changes) × (s.removes ≡ me.0.removes) ×
@@ -126,7 +127,7 @@ IsWhole s = WholeAt s s.inner.me
 
 -- a seat as contracts see it
 abbrev pub data_of : Inside → SeatData
-data_of s = record { object = s.inner.table_id; view = s.inner.me.0; free = s.free.items; holding = s.holding.items; first = s.first; fresh = s.fresh }
+data_of s = record { object = s.inner.table_id; view = s.inner.me.0; free = s.free.items; holding = s.holding.items; noted = s.noted.items; first = s.first; fresh = s.fresh }
 
 -- a step of the seat, after which its lists are these
 pub record Relists (s : Inside) (inner : Seat Call View) (free holding retired : Vec ℕ Global) : Type 0 where
@@ -148,7 +149,7 @@ tied_step s inner free holding retired holds claims t r is words =
     let n = s.first in
     let room : room_of n inner.me.0 ≡ room_of n s.inner.me.0 =
     (λ i. (r.plan i).share * cond n (r.plan i).seats (length (r.numbers i)) + (r.plan i).removes * cond n (r.plan i).seats (length (r.numbers i))) in
-    let f = t.room_free in let h = t.room_holding in let g = t.room_retired in
+    let f = t.room_free in let h = t.room_holding in let g = t.room_retired in let n' = t.room_noted in
     let f' = r.room_free in let h' = r.room_holding in let g' = r.room_retired in record {
       slots = r.slots ∙ t.slots;
       sound = r.sound;
@@ -161,6 +162,8 @@ tied_step s inner free holding retired holds claims t r is words =
       room_free = omega arith;
       room_holding = omega arith;
       room_retired = omega arith;
+      room_noted = omega arith;
+      few_noted = t.few_noted;
       fresh = λ no. absurd (false≢true no);
     }
 
@@ -182,7 +185,28 @@ tied_lists s free holding t own_free same long is_a is_b used = let f = t.room_f
   room_free = omega arith;
   room_holding = omega arith;
   room_retired = t.room_retired;
+  room_noted = t.room_noted;
+  few_noted = t.few_noted;
   fresh = λ is. absurd (used is);
+}
+
+-- other links noted
+pub tied_notes : (s : Inside) (noted : Vec ℕ Global) → Ties s → length noted.items < 2 ^ 32 → vec_capacity noted ≡ vec_capacity s.noted → Ties (record s { noted = noted })
+tied_notes s noted t few same = let n = t.room_noted in record {
+  slots = t.slots;
+  sound = t.sound;
+  numbers = t.numbers;
+  holds = t.holds;
+  lists = t.lists;
+  long = t.long;
+  claims = t.claims;
+  own_free = t.own_free;
+  room_free = t.room_free;
+  room_holding = t.room_holding;
+  room_retired = t.room_retired;
+  room_noted = omega arith;
+  few_noted = few;
+  fresh = t.fresh;
 }
 
 -- the parts of a view that a step leaves which moves no node and is no change
@@ -316,6 +340,7 @@ pub record IsNew (s : Inside) (v : View) : Type 0 where
   pub changes : s.changes ≡ v.changes
   pub removes : s.removes ≡ v.removes
   pub retired : s.retired.items ≡ []
+  pub few_noted : length s.noted.items < 2 ^ 32
   pub claims : s.claims ≡ replicate CLAIMS 0
   pub scan_next : s.scan_next ≡ 0
   pub scan_old : s.scan_old ≡ 0
@@ -323,6 +348,7 @@ pub record IsNew (s : Inside) (v : View) : Type 0 where
   pub room_free : room_of s.first v ≤ vec_capacity s.free
   pub room_holding : room_of s.first v ≤ vec_capacity s.holding
   pub room_retired : room_of s.first v ≤ vec_capacity s.retired
+  pub room_noted : room_of s.first v ≤ vec_capacity s.noted
   pub room_found : CLAIMS * v.plan.seats ≤ vec_capacity s.scan_found
 
 pub new_whole : (s : Inside) (v : View) → s.inner.me ≡ (v, []) → Sound s.inner.me.0 → IsNew s v → IsWhole s
@@ -339,6 +365,8 @@ new_whole s v is sound new = let f = new.fresh in subst (WholeAt s) (sym is) (
     room_free = new.room_free;
     room_holding = new.room_holding;
     room_retired = new.room_retired;
+    room_noted = new.room_noted;
+    few_noted = new.few_noted;
     fresh = λ _. f;
   },
   new.least,

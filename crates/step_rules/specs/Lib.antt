@@ -2,6 +2,7 @@ pub mod Bags
 pub mod Cells
 pub mod Claims
 pub mod Closing
+pub mod Fronts
 pub mod History
 pub mod Kinds
 pub mod Lawful

@@ -1,5 +1,5 @@
 -- A seat and a shared object, as contracts see them.
-use Rattle.std.specs.Prelude.{◌≡◌, ℕ, ◌+◌, ◌*◌, ◌≤◌, Bool, true, false, List, [], ◌∷◌, ◌++◌, length, Some, is_some, not, ◌&&◌, ◌==◌, map, replicate, take, if◌then◌else◌}
+use Rattle.std.specs.Prelude.{◌≡◌, ℕ, ◌+◌, ◌*◌, ◌^◌, ◌<◌, ◌≤◌, Bool, true, false, List, [], ◌∷◌, ◌++◌, length, Some, is_some, not, ◌&&◌, ◌==◌, map, replicate, take, if◌then◌else◌}
 use mathlib.Core.Option.{some}
 use lib.ListN.{get_elem?}
 use Rattle.atomic_table.specs.Seated.{TableId}
@@ -21,12 +21,14 @@ pub record ObjectData : Type 0 where
   pub object : TableId
   pub plan : Plan
 
--- which object a seat is of, what it knows, and which of its own nodes are free and which are held
+-- which object a seat is of, what it knows, which of its own nodes are free and which are held, and the links that the change in preparation
+-- leaves out, in the chain's order
 pub record SeatData : Type 0 where
   pub object : TableId
   pub view : View
   pub free : List ℕ
   pub holding : List ℕ
+  pub noted : List ℕ
   -- whether it is the first seat, and whether it made no step but splits
   pub first : Bool
   pub fresh : Bool
@@ -86,7 +88,7 @@ abbrev pub room_of : Bool → View → ℕ
 room_of first v = v.plan.share * (if first then v.plan.seats else length v.numbers) + v.plan.removes * (if first then v.plan.seats else length v.numbers)
 
 -- what ties the seat's own numbers and lists to its view
-pub record IsTied (me : Me Call View) (count : ℕ) (first is_fresh holds_one : Bool) (free holding words : List ℕ) (for_free for_holding for_retired : ℕ) : Type 0 where
+pub record IsTied (me : Me Call View) (count : ℕ) (first is_fresh holds_one : Bool) (free holding noted words : List ℕ) (for_free for_holding for_retired for_noted : ℕ) : Type 0 where
   pub slots : me.1 ≡ []
   pub sound : Sound me.0
   pub numbers : count ≡ length me.0.numbers
@@ -98,6 +100,8 @@ pub record IsTied (me : Me Call View) (count : ℕ) (first is_fresh holds_one : 
   pub room_free : room_of first me.0 ≤ for_free
   pub room_holding : room_of first me.0 ≤ for_holding
   pub room_retired : room_of first me.0 ≤ for_retired
+  pub room_noted : room_of first me.0 ≤ for_noted
+  pub few_noted : length noted < 2 ^ 32
   pub fresh : is_fresh ≡ true → IsFresh me.0 free holding
 
 -- the own node is held, and is taken from the free ones where it was free; nothing else changes

@@ -33,6 +33,7 @@ pub record IsBuilt (p : Plan) (shared : ObjectData) (made : SeatData) : Type 0 w
     view = starting p;
     free = count_up (cells p) (p.seats * p.share);
     holding = [];
+    noted = [];
     first = true;
     fresh = true;
   }

@@ -1,5 +1,6 @@
 -- What a step leaves of its seat.
-use Rattle.std.specs.Prelude.{◌≡◌, ℕ, ◌+◌, ◌*◌, ◌-◌, ◌<◌, ◌≤◌, true, false, List, [], ◌∷◌, ◌++◌, Some, ◌⊎◌, ⊤, suc, zero, filter, map, slice_index, slice_index_or, Bool, length, take, drop}
+use Rattle.std.specs.Prelude.{◌≡◌, ℕ, ◌+◌, ◌*◌, ◌-◌, ◌<◌, ◌≤◌, true, false, List, [], ◌∷◌, ◌++◌, Some, ◌⊎◌, ⊤, suc, zero, filter, map, slice_index, slice_index_or}
+use Rattle.std.specs.Prelude.{Bool, length, take, drop, ◌==◌, if◌then◌else◌}
 use Rattle.seat_history.specs.declared.call.Call.{Call}
 use Rattle.seat_history.specs.declared.call.Call.TheVariants.{Look, Release}
 use Rattle.seat_history.specs.declared.reply.Reply.{Reply}
@@ -13,7 +14,7 @@ use Rattle.step_rules.specs.Kinds.Claiming.{Frees, Rechecks}
 use Rattle.step_rules.specs.Kinds.Standing.{MayStand, first_look}
 use Rattle.step_rules.specs.Kinds.Walking.{WalkRechecks}
 use Rattle.step_rules.specs.SeatData.{IsHolding, SeatData, holds_record, is_quiet}
-use Rattle.step_rules.specs.Views.{claim_of, fresh_of, is_freed, joined_view, left_view, number, right_view, scanned_view}
+use Rattle.step_rules.specs.Views.{claim_of, dropped_of, fresh_of, is_freed, joined_view, left_view, number, right_view, scanned_view}
 use Rattle.step_rules.specs.World.{has, nodes_of}
 use Rattle.step_rules.specs.Layout.{claim_at}
 use Rattle.step_rules.specs.declared.layout.TheConstants.{CLAIMS}
@@ -26,6 +27,14 @@ use Rattle.step_rules.specs.declared.view.View.{View}
 -- the seat made a step and has this view; its lists stay
 abbrev pub stepped : View → SeatData → SeatData
 stepped view seat = record seat { view = view; fresh = false }
+
+-- a step at the claim word c takes back what is noted where this is Back
+abbrev pub unnoted : ℕ → SeatData → SeatData
+unnoted c seat = record seat { noted = if c == BACK then [] else seat.noted }
+
+-- the seat made steps and has this view; its lists stay, but for the links noted
+abbrev pub OnlyStepped : SeatData → SeatData → Type 0
+OnlyStepped before now = now ≡ record (stepped now.view before) { noted = now.noted }
 
 -- a claim of the seat stands on the node
 abbrev pub IsClaimed : ℕ → View → Type 0
@@ -70,6 +79,10 @@ pub record Sees (kind : Kind) (k x : ℕ) (old new : SeatData) : Type 0 where
 -- the nodes that the seat holds are the front that the call makes, from the node n on
 abbrev pub HoldsFront : ℕ → Call → SeatData → Type 0
 HoldsFront n call seat = (m : ℕ) → has seat.holding m ≡ has (nodes_of (fresh_of n call seat.view)) m
+
+-- of the claimed chain the first node falls out by the call, and then the links noted
+abbrev pub DropsNoted : Call → SeatData → Type 0
+DropsNoted call seat = nodes_of (drop 1 (dropped_of call seat.view)) ≡ seat.noted
 
 -- an exchange of the cell k from the word x to the held node n, which won: the held nodes are the cell's
 pub record Won (k x n : ℕ) (call : Call) (old new : SeatData) : Type 0 where
@@ -142,6 +155,7 @@ pub record IsSplit (old kept made : SeatData) : Type 0 where
     view = right_view old.view;
     free = drop (cut old) old.free;
     holding = [];
+    noted = [];
     first = false;
     fresh = true;
   }

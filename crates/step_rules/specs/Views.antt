@@ -141,7 +141,6 @@ announced c n v = if c == 2 then standing n (words_in v.own n) 0 [] 0 else silen
 abbrev pub announced_view : ℕ → ℕ → View → View
 announced_view c n v = record v {
   claims = slice_set v.claims c (announced c n v);
-  links = if c == 0 then [] else v.links;
   trail = v.trail ++ counted (ClaimStore c n) (n + 1) (length v.seen) ∷ [];
 }
 
@@ -171,7 +170,6 @@ walked_view n k x found log v = record v {
 abbrev pub cleared_view : ℕ → View → View
 cleared_view c v = record v {
   claims = slice_set v.claims c (silent 0);
-  links = if c == 0 then [] else v.links;
   trail = v.trail ++ counted (ClaimClear c) 0 (length v.seen) ∷ [];
 }
 
@@ -261,7 +259,6 @@ blank_view p numbers own = record {
   changes = p.changes * length numbers;
   removes = p.removes * length numbers;
   claims = replicate CLAIMS (silent 0);
-  links = [];
   scan = record { next = 0; old = []; found = [] };
   reader = record { cell = 0; version = 0; words = []; at = 0 };
   writer = record { cell = 0; version = 0; node = 0; locked = false; stores = 0; change = 0 };

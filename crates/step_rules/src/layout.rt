@@ -15,6 +15,9 @@ pub const CELL_WIDTH: usize = NODE_WIDTH + 2;
 /// How many claim words a number has.
 pub const CLAIMS: u32 = 4;
 
+/// The claim word Back, the first one of a number.
+pub(crate) const BACK: u32 = 0;
+
 /// The next word of a bucket without records.
 pub const END: u64 = u64::MAX;
 

@@ -55,6 +55,7 @@ fn with_room(alloc: Global, plan: &Plan, layout: &Layout) -> Result<(Shared, Sea
     let free = free_nodes(alloc, layout, room)?;
     let holding = Vec::with_capacity(alloc, room)?;
     let retired = Vec::with_capacity(alloc, room)?;
+    let noted = Vec::with_capacity(alloc, room)?;
     let scan_found = Vec::with_capacity(alloc, cells_start)?;
     let shared = Shared {
         table,
@@ -62,7 +63,7 @@ fn with_room(alloc: Global, plan: &Plan, layout: &Layout) -> Result<(Shared, Sea
         cells_start,
         nodes_start: cells_start + CELL_WIDTH * layout.cells as usize,
     };
-    let seat = first_seat(plan, inner, free, holding, retired, scan_found);
+    let seat = first_seat(plan, inner, free, holding, retired, noted, scan_found);
     Ok((shared, seat))
 }
 
@@ -146,16 +147,18 @@ fn first_seat(
     free: Vec<u32>,
     holding: Vec<u32>,
     retired: Vec<u32>,
+    noted: Vec<u32>,
     scan_found: Vec<u64>,
 ) -> Seat
     requires view { inner.me ≡ (starting plan.now, []) }
     requires sound { Sound (starting plan.now) }
     requires free { free.items ≡ count_up (cells plan.now) (plan.now.seats * plan.now.share) }
-    requires none { (holding.items ≡ []) × (retired.items ≡ []) × (scan_found.items ≡ []) }
+    requires none { (holding.items ≡ []) × (retired.items ≡ []) × (noted.items ≡ []) × (scan_found.items ≡ []) }
     requires room { (plan.now.seats * plan.now.share + plan.now.removes * plan.now.seats ≤ vec_capacity free)
         × (plan.now.seats * plan.now.share + plan.now.removes * plan.now.seats ≤ vec_capacity holding)
-        × (plan.now.seats * plan.now.share + plan.now.removes * plan.now.seats ≤ vec_capacity retired) × (CLAIMS * plan.now.seats ≤ vec_capacity scan_found) }
-    ensures seat { result ≡ record { object = inner.table_id; view = starting plan.now; free = free.items; holding = []; first = true; fresh = true } }
+        × (plan.now.seats * plan.now.share + plan.now.removes * plan.now.seats ≤ vec_capacity retired)
+        × (plan.now.seats * plan.now.share + plan.now.removes * plan.now.seats ≤ vec_capacity noted) × (CLAIMS * plan.now.seats ≤ vec_capacity scan_found) }
+    ensures seat { result ≡ record { object = inner.table_id; view = starting plan.now; free = free.items; holding = []; noted = []; first = true; fresh = true } }
 {
     Seat {
         inner,
@@ -169,6 +172,7 @@ fn first_seat(
         free,
         holding,
         retired,
+        noted,
         claims: [0; CLAIMS as usize],
         scan_next: 0,
         scan_old: 0,

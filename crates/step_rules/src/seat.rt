@@ -1,12 +1,12 @@
-ghost use Rattle.std.specs.Prelude.{◌≡◌, ◌<◌, ◌+◌, ◌-◌, ◌++◌, ◌∷◌, [], true, false, length, slice_index};
+ghost use Rattle.std.specs.Prelude.{◌≡◌, ◌<◌, ◌+◌, ◌-◌, ◌++◌, ◌∷◌, [], true, false, length, slice_index, drop};
 ghost use Rattle.step_rules.specs.Bags.{IsWithout};
 ghost use Rattle.step_rules.specs.SeatData.{IsSeat, SeatData, Takes, holds_record, is_quiet};
-ghost use Rattle.step_rules.specs.Steps.{IsUnannounced};
-ghost use Rattle.step_rules.specs.Views.{claim_of, number};
+ghost use Rattle.step_rules.specs.Steps.{IsUnannounced, unnoted};
+ghost use Rattle.step_rules.specs.Views.{claim_of, claimed_pages, number};
 ghost use Rattle.step_rules.specs.World.{has, nodes_of};
 ghost use Rattle.step_rules.specs.declared.layout.TheConstants.{CLAIMS};
 
-use crate::layout::CLAIMS;
+use crate::layout::{BACK, CLAIMS};
 use crate::lists::{holds, take_out};
 use crate::view::View;
 use seat_history::Call;
@@ -34,6 +34,8 @@ pub struct Seat {
     /// The own nodes that are held.
     pub(crate) holding: Vec<u32>,
     pub(crate) retired: Vec<u32>,
+    /// The links that the change in preparation leaves out, in the chain's order.
+    pub(crate) noted: Vec<u32>,
     /// What stands in the claim words of the least number: Back, Walk, Own and Hold.
     pub(crate) claims: [u64; CLAIMS as usize],
     /// The next word of the scan in flight.
@@ -51,10 +53,10 @@ impl Model for Seat {
 
     ghost Value = { SeatData };
 
-    ghost view = { λ s. record { object = s.inner.table_id; view = s.inner.me.0; free = s.free.items; holding = s.holding.items; first = s.first; fresh = s.fresh } };
+    ghost view = { λ s. record { object = s.inner.table_id; view = s.inner.me.0; free = s.free.items; holding = s.holding.items; noted = s.noted.items; first = s.first; fresh = s.fresh } };
 
-    ghost invariant = { λ s. IsTied s.inner.me s.numbers s.first s.fresh s.holds_record s.free.items s.holding.items s.claims (vec_capacity s.free) (vec_capacity s.holding)
-        (vec_capacity s.retired) × (s.least ≡ number s.inner.me.0) × (s.changes ≡ s.inner.me.0.changes) × (s.removes ≡ s.inner.me.0.removes)
+    ghost invariant = { λ s. IsTied s.inner.me s.numbers s.first s.fresh s.holds_record s.free.items s.holding.items s.noted.items s.claims (vec_capacity s.free)
+        (vec_capacity s.holding) (vec_capacity s.retired) (vec_capacity s.noted) × (s.least ≡ number s.inner.me.0) × (s.changes ≡ s.inner.me.0.changes) × (s.removes ≡ s.inner.me.0.removes)
         × (s.retired.items ≡ s.inner.me.0.retired) × IsScan s.inner.me.0 s.scan_next s.scan_old s.scan_found.items (vec_capacity s.scan_found) };
 }
 
@@ -143,6 +145,13 @@ impl Seat {
         self.holding.len() as u32
     }
 
+    /// How many links are noted.
+    pub fn links_noted(&self) -> u32
+        ensures { result ≡ length self.now.noted }
+    {
+        self.noted.len() as u32
+    }
+
     /// What stands in a claim word of its least number: 0, or a node's number and 1.
     pub fn claim_word(&self, claim: u32) -> u64
         requires { claim < CLAIMS }
@@ -157,6 +166,35 @@ impl Seat {
         ensures { result ≡ slice_index self.now.free (length self.now.free - 1) }
     {
         self.free[self.free.len() - 1]
+    }
+
+    /// A held node.
+    pub fn next_held(&self) -> u32
+        requires { 0 < length self.now.holding }
+        ensures { result ≡ slice_index self.now.holding (length self.now.holding - 1) }
+    {
+        self.holding[self.holding.len() - 1]
+    }
+
+    /// Notes that the change in preparation leaves a link out: one of the chain that the claim on Back
+    /// stands on. The links are noted in the chain's order, each once, and fewer than nodes are held.
+    /// No step is made. The next store to Back, or its clear, takes all notes back.
+    pub fn note_link(&mut self, node: u32)
+        requires link { has (nodes_of (drop 1 (claimed_pages self.old.view))) node ≡ true }
+        requires once { has self.old.noted node ≡ false }
+        requires held { length self.old.noted < length self.old.holding }
+        ensures noted { self.new ≡ record self.old { noted = self.old.noted ++ node ∷ [] } }
+    {
+        self.noted.push_reserved(node);
+    }
+
+    /// A step at the claim word Back begins another change, or ends one: no link is noted.
+    pub(crate) fn take_notes_back(&mut self, claim: u32)
+        ensures { self.new ≡ unnoted claim self.old }
+    {
+        if claim == BACK {
+            self.noted.clear();
+        }
     }
 
     /// The held node is free again.

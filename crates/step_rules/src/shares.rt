@@ -25,8 +25,9 @@ impl Shared {
         let free = Vec::with_capacity(alloc, room)?;
         let holding = Vec::with_capacity(alloc, room)?;
         let retired = Vec::with_capacity(alloc, room)?;
+        let noted = Vec::with_capacity(alloc, room)?;
         let scan_found = Vec::with_capacity(alloc, self.cells_start)?;
-        Ok(self.cut(seat, free, holding, retired, scan_found))
+        Ok(self.cut(seat, free, holding, retired, noted, scan_found))
     }
 
     // The lists have room for the share that goes to the new seat.
@@ -36,14 +37,16 @@ impl Shared {
         mut free: Vec<u32>,
         holding: Vec<u32>,
         retired: Vec<u32>,
+        noted: Vec<u32>,
         scan_found: Vec<u64>,
     ) -> Seat
         requires ours { IsOf self.now seat.old }
         requires fresh { seat.old.fresh ≡ true }
         requires more { 1 < length seat.old.view.numbers }
-        requires empty { (free.items ≡ []) × (holding.items ≡ []) × (retired.items ≡ []) × (scan_found.items ≡ []) }
+        requires empty { (free.items ≡ []) × (holding.items ≡ []) × (retired.items ≡ []) × (noted.items ≡ []) × (scan_found.items ≡ []) }
         requires room { (self.now.plan.share + self.now.plan.removes ≤ vec_capacity free) × (self.now.plan.share + self.now.plan.removes ≤ vec_capacity holding)
-            × (self.now.plan.share + self.now.plan.removes ≤ vec_capacity retired) × (CLAIMS * self.now.plan.seats ≤ vec_capacity scan_found) }
+            × (self.now.plan.share + self.now.plan.removes ≤ vec_capacity retired) × (self.now.plan.share + self.now.plan.removes ≤ vec_capacity noted)
+            × (CLAIMS * self.now.plan.seats ≤ vec_capacity scan_found) }
         ensures split { IsSplit seat.old seat.new result }
     {
         let mut inner = self.table.shared.split_seat::<Halves>(&mut seat.inner);
@@ -69,6 +72,7 @@ impl Shared {
             free,
             holding,
             retired,
+            noted,
             claims: [0; CLAIMS as usize],
             scan_next: 0,
             scan_old: 0,

@@ -126,8 +126,6 @@ pub struct View {
     pub removes: u64,
     /// Back, Walk, Own and Hold.
     pub claims: LinkedList<Claim>,
-    /// The links that the change in preparation leaves out.
-    pub links: LinkedList<u32>,
     pub scan: Scan,
     pub reader: Reader,
     pub writer: Writer,

@@ -1,5 +1,5 @@
 -- CLAIM STORE, CLAIM CLEAR and RECHECK keep the rule.
-use Rattle.std.proofs.Common.{◌≡◌, ◌≢◌, ℕ, ◌+◌, ◌*◌, ◌/◌, ◌<◌, List, [], ◌∷◌, ◌++◌, length, set, cond, eqb, eq-eqb, ne_eqb, refl, sym, ap, ◌∙◌, subst}
+use Rattle.std.proofs.Common.{◌≡◌, ◌≢◌, ℕ, ◌+◌, ◌*◌, ◌/◌, ◌<◌, List, [], ◌∷◌, ◌++◌, length, set, eqb, eq-eqb, ne_eqb, refl, sym, ap, ◌∙◌, subst}
 use Rattle.std.proofs.Common.{arith, ⊎_elim, le_refl}
 use Rattle.std.proofs.Math.Seq.{drop-length}
 use Rattle.std.proofs.lemmas.Bool.{cases_eq, cond-true, cond-false}
@@ -41,7 +41,7 @@ claim_low : (m : Moment) (c : ℕ) → c < CLAIMS → claim_at (number m.view) c
 claim_low m c inside = let small = (seat m).numbers.below (number m.view) (has_first m.view.numbers m.numbered) in omega arith
 
 -- a store to the seat's claim word c, after which x is its claim there
-module _ (m : Moment) (c : ℕ) (x : Claim) (links : List ℕ) (made : Counted) (inside : c < CLAIMS) (may : MayBecome m.view.plan (world m) m.id c m.view.seen x)
+module _ (m : Moment) (c : ℕ) (x : Claim) (made : Counted) (inside : c < CLAIMS) (may : MayBecome m.view.plan (world m) m.id c m.view.seen x)
     (seen : made.seen ≡ length m.view.seen) where
   abbrev i : ℕ
   i = claim_at (number m.view) c
@@ -61,8 +61,8 @@ module _ (m : Moment) (c : ℕ) (x : Claim) (links : List ℕ) (made : Counted) 
     guard = set_at (world m).guard i (stood_in x);
   }
 
-  pub claim_written : Made m ws' (record m.view { claims = set m.view.claims c x; links = links; trail = m.view.trail ++ made ∷ [] })
-  claim_written = turn m ws' links (m.view.trail ++ made ∷ []) (record { ok = seat m; numbered = m.numbered; inside = inside; may = may })
+  pub claim_written : Made m ws' (record m.view { claims = set m.view.claims c x; trail = m.view.trail ++ made ∷ [] })
+  claim_written = turn m ws' (m.view.trail ++ made ∷ []) (record { ok = seat m; numbered = m.numbered; inside = inside; may = may })
       (trail_step m.view.seen made (seat m).trail (goes_on_same m.view.seen) (omega arith)) refl (length-set m.ws i x.word ∙ m.rule.wide) is
 
 -- where the claim is on Own, it stands at once, and else not
@@ -105,7 +105,7 @@ announces slots id me c n numbered may s r _ at _ =
     let m = moment id me numbered s r at in
     let x = claimed_as c n v in
     let i = claim_at (number v) c in
-    let made = claim_written m c x (cond (eqb c 0) [] v.links) (counted (ClaimStore c n) (n + 1) (length v.seen)) may.claim (announced_may v.plan (world m) id c n v may (seat m)) refl in
+    let made = claim_written m c x (counted (ClaimStore c n) (n + 1) (length v.seen)) may.claim (announced_may v.plan (world m) id c n v may (seat m)) refl in
     store_owed id me numbered s r at _ i (n + 1) (announced_view c n v) (subst (λ y. Made m (set s.words i y) (announced_view c n v)) (announced_word c n v) made) refl numbered
     (λ d k e lt is. let q = (one_claim (number v) c (number v) d e may.claim lt).1 in let t : n ≡ k = omega arith in λ j. announced_view (q j) (t j) v)
 
@@ -115,7 +115,7 @@ clears slots id me c numbered inside s r _ at _ =
     let v = me.0 in
     let m = moment id me numbered s r at in
     store_owed id me numbered s r at _ (claim_at (number v) c) 0 (cleared_view c v)
-    (claim_written m c (silent 0) (cond (eqb c 0) [] v.links) (counted (ClaimClear c) 0 (length v.seen)) inside (silent_may v.plan (world m) id c v.seen 0) refl) refl numbered
+    (claim_written m c (silent 0) (counted (ClaimClear c) 0 (length v.seen)) inside (silent_may v.plan (world m) id c v.seen 0) refl) refl numbered
     (λ d e lt. let q = (one_claim (number v) c (number v) d e inside lt).1 in λ j. cleared_view (q j) v)
 
 -- a recheck after which the claim x stands, whose node the claim word named before: no word changes
@@ -134,7 +134,7 @@ module _ (m : Moment) (c k y : ℕ) (x : Claim) (inside : k < cells m.view.plan)
   same_word = is_set (world m).word (world m).word place x.word (seen_seat.claims.word c (claim_of c m.view) m.numbered (claim_found seen_seat.claims c low) ∙ named) (λ w ne. refl)
 
   pub stands_then : Made m m.ws (record looked { claims = set m.view.claims c x })
-  stands_then = turn m m.ws m.view.links looked.trail (record { ok = seen_seat; numbered = m.numbered; inside = low; may = may }) seen_seat.trail refl m.rule.wide
+  stands_then = turn m m.ws looked.trail (record { ok = seen_seat; numbered = m.numbered; inside = low; may = may }) seen_seat.trail refl m.rule.wide
       (λ j. record (world m) { word = same_word j; guard = set_at (world m).guard place (stood_in x) })
 
 -- a recheck that found the node that the claim names

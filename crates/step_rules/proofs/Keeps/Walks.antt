@@ -28,7 +28,7 @@ use Rattle.step_rules.proofs.Keeps.Claiming.{stands_then}
 use Rattle.step_rules.proofs.Moments.{Made, Moment, load_owed, moment, seat, world}
 use Rattle.step_rules.proofs.Owns.{words_at}
 use Rattle.step_rules.proofs.Places.{there_at}
-use Rattle.step_rules.proofs.Seeing.{seeing, sees, sees_told}
+use Rattle.step_rules.proofs.Seeing.{seeing, sees, sees_falls, sees_told}
 use Rattle.step_rules.proofs.Sets.{at_has}
 
 pub walk_tells : Tells WALK → ⊥
@@ -102,6 +102,7 @@ module _ (m : Moment) (k y n : ℕ) (inside : k < cells m.view.plan) (may_walk :
     seen = seen.whole;
     calm = λ b e. subst (λ (z : Claim). NoneOn p k (drop z.at log)) (some-injective may_walk.back b (sym may_walk.claimed ∙ e))
         (subst (λ j. NoneOn p j (drop may_walk.back.at log)) may_walk.cell ((seat m).claims.calm BACK (y / 2) may_walk.back may_walk.claimed (inl refl) may_walk.stands same_back));
+    falls = sees_falls m (Recheck WALK k y) k inside;
   }
 
 pub walks : (slots id : ℕ) (me : Mine) (k y n : ℕ) → 0 < length me.0.numbers → k < cells me.0.plan → MayWalk k y n me.0

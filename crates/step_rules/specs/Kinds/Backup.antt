@@ -1,12 +1,12 @@
 -- Looks at a cell's backup, and exchanges of it.
-use Rattle.std.specs.Prelude.{◌≡◌, ◌≢◌, ℕ, ◌/◌, ◌<◌, ◌≤◌, true, List, ◌++◌, Some, drop, length}
+use Rattle.std.specs.Prelude.{◌≡◌, ◌≢◌, ℕ, ◌/◌, ◌<◌, ◌≤◌, true, List, ◌++◌, Some, drop}
 use mathlib.Core.Option.{some}
 use lib.ListN.{get_elem?}
 use Rattle.seat_history.specs.declared.call.Call.{Call}
 use Rattle.seat_history.specs.declared.entry.Entry.{Entry}
 use Rattle.step_rules.specs.Claims.{BACK, OWN, On, Tells}
 use Rattle.step_rules.specs.History.{IsThere, IsWide, NoneOn, cell_of}
-use Rattle.step_rules.specs.Records.{dropped_count, fresh_records, is_change_in, records_of, removes_of}
+use Rattle.step_rules.specs.Records.{fresh_records, is_change_in, records_of, removes_of}
 use Rattle.step_rules.specs.Views.{claimed_edit, claimed_records, fresh_of, kept_of, looked_view, won_view}
 use Rattle.step_rules.specs.World.{Linked, Once, has, link, nodes_of}
 use Rattle.step_rules.specs.declared.view.Claim.{Claim}
@@ -45,10 +45,6 @@ pub record MayExchange (k x n : ℕ) (call : Call) (v : View) : Type 0 where
   pub records : records_of (fresh_of n call v) ≡ fresh_records (claimed_records v) (claimed_edit call v)
   pub left : 0 < v.changes
   pub removes : removes_of call ≤ v.removes
-
--- of the claimed chain only the first node falls out by the call
-abbrev pub DropsFirst : Call → View → Type 0
-DropsFirst call v = dropped_count (length (claimed_records v)) (claimed_edit call v) ≡ 1
 
 -- the exchange won: the cell was what it was where the Back claim began to stand
 pub record Wins (k x n : ℕ) (call : Call) (v w : View) : Type 0 where

@@ -1,9 +1,9 @@
-ghost use Rattle.std.specs.Prelude.{◌≡◌, ◌≢◌, ◌<◌};
-ghost use Rattle.step_rules.specs.Kinds.Backup.{DropsFirst, MayExchange};
+ghost use Rattle.std.specs.Prelude.{◌≡◌, ◌≢◌, ◌<◌, ◌+◌, ◌++◌, ◌∷◌, length, vec_capacity, vec_len};
+ghost use Rattle.step_rules.specs.Kinds.Backup.{MayExchange};
 ghost use Rattle.step_rules.specs.Layout.{cells};
 ghost use Rattle.step_rules.specs.SeatData.{IsOf};
 ghost use Rattle.step_rules.specs.Records.{removes_of};
-ghost use Rattle.step_rules.specs.Steps.{HoldsFront, Sees, Won};
+ghost use Rattle.step_rules.specs.Steps.{DropsNoted, HoldsFront, Sees, Won};
 ghost use Rattle.step_rules.specs.declared.view.Kind.TheVariants.{BackupExchange, BackupLoad};
 
 use crate::place::Telling;
@@ -36,7 +36,7 @@ fn exchange_told<T: Telling>(
     requires ours { IsOf shared.now seat.old }
     requires may { MayExchange cell seen node call seat.old.view }
     requires front { HoldsFront node call seat.old }
-    requires first { DropsFirst call seat.old.view }
+    requires noted { DropsNoted call seat.old }
     ensures won { result ≡ seen → Won cell seen node call seat.old seat.new }
     ensures lost { result ≢ seen → Sees (BackupExchange cell seen node) cell result seat.old seat.new }
 {
@@ -53,8 +53,20 @@ fn exchange_told<T: Telling>(
     seat.changes -= 1;
     seat.removes -= removes_of(&call);
     seat.holding.clear();
-    seat.retired.push_reserved((seen / 2) as u32);
+    retire(&mut seat.retired, (seen / 2) as u32, &seat.noted);
     found
+}
+
+// Adds a cell's first node and then the noted links to the retired ones.
+fn retire(retired: &mut Vec<u32>, first: u32, noted: &[u32])
+    requires room { vec_len retired.old + length noted.now < vec_capacity retired.old }
+    ensures items { retired.new.items ≡ retired.old.items ++ first ∷ noted.now }
+    ensures capacity { vec_capacity retired.new ≡ vec_capacity retired.old }
+{
+    retired.push_reserved(first);
+    for link in noted {
+        retired.push_reserved(*link);
+    }
 }
 
 // How many removes a call spends.
@@ -69,9 +81,9 @@ fn removes_of(call: &Call) -> u32
 
 /// Exchanges the backup of a cell from a word whose node the seat's Back claim stands on to a held and
 /// announced node, with its mark set, for a call that changes the claimed records. The held nodes,
-/// linked from that one on, are the front that the call makes, and of the claimed chain only the first
-/// node falls out. It won exactly where it answers that word; then the call is the last of the
-/// history, the held nodes are the cell's, and the node that fell out is retired.
+/// linked from that one on, are the front that the call makes, and of the claimed chain the first node
+/// falls out and then the noted links. It won exactly where it answers that word; then the call is the
+/// last of the history, the held nodes are the cell's, and the nodes that fell out are retired.
 pub fn backup_exchange(
     shared: &Shared,
     seat: &mut Seat,
@@ -83,7 +95,7 @@ pub fn backup_exchange(
     requires ours { IsOf shared.now seat.old }
     requires may { MayExchange cell seen node call seat.old.view }
     requires front { HoldsFront node call seat.old }
-    requires first { DropsFirst call seat.old.view }
+    requires noted { DropsNoted call seat.old }
     ensures won { result ≡ seen → Won cell seen node call seat.old seat.new }
     ensures lost { result ≢ seen → Sees (BackupExchange cell seen node) cell result seat.old seat.new }
 {

@@ -3,7 +3,7 @@ ghost use Rattle.step_rules.specs.Claims.{Tells, WALK};
 ghost use Rattle.step_rules.specs.Kinds.Walking.{MayRecheck};
 ghost use Rattle.step_rules.specs.Layout.{cells};
 ghost use Rattle.step_rules.specs.SeatData.{IsOf};
-ghost use Rattle.step_rules.specs.Steps.{IsRechecked, IsWalked, MayClaim, stepped};
+ghost use Rattle.step_rules.specs.Steps.{IsRechecked, IsWalked, MayClaim, stepped, unnoted};
 ghost use Rattle.step_rules.specs.Views.{announced_view, cleared_view};
 ghost use Rattle.step_rules.specs.declared.layout.TheConstants.{CLAIMS};
 
@@ -14,11 +14,12 @@ use crate::shared::Shared;
 use std::marker::Brand;
 
 /// Announces a node in a claim word of the seat's least number, and ends the claim that stood in it.
-/// On Own the seat holds the node, and the claim stands at once; on Hold no record is held.
+/// On Own the seat holds the node, and the claim stands at once; on Hold no record is held. On Back
+/// what is noted is taken back.
 pub fn claim_store(shared: &Shared, seat: &mut Seat, claim: u32, node: u32)
     requires ours { IsOf shared.now seat.old }
     requires may { MayClaim claim node seat.old }
-    ensures seat { seat.new ≡ stepped (announced_view claim node seat.old.view) seat.old }
+    ensures seat { seat.new ≡ stepped (announced_view claim node seat.old.view) (unnoted claim seat.old) }
 {
     seat.fresh = false;
     let place = shared.claim_place(seat.least, claim);
@@ -28,6 +29,7 @@ pub fn claim_store(shared: &Shared, seat: &mut Seat, claim: u32, node: u32)
         .shared
         .store::<Announces>(&mut seat.inner, place, word);
     seat.claims[claim as usize] = word;
+    seat.take_notes_back(claim);
 }
 
 fn recheck_told<R: Rechecking>(
@@ -65,11 +67,12 @@ pub fn recheck_load(shared: &Shared, seat: &mut Seat, claim: u32, cell: u32, see
     recheck_told::<Brand>(shared, seat, claim, cell, seen)
 }
 
-/// Clears a claim word of the seat's least number, and ends the claim that stood in it.
+/// Clears a claim word of the seat's least number, and ends the claim that stood in it. On Back what is
+/// noted is taken back.
 pub fn claim_clear(shared: &Shared, seat: &mut Seat, claim: u32)
     requires ours { IsOf shared.now seat.old }
     requires claim { claim < CLAIMS }
-    ensures seat { seat.new ≡ stepped (cleared_view claim seat.old.view) seat.old }
+    ensures seat { seat.new ≡ stepped (cleared_view claim seat.old.view) (unnoted claim seat.old) }
 {
     seat.fresh = false;
     let place = shared.claim_place(seat.least, claim);
@@ -78,4 +81,5 @@ pub fn claim_clear(shared: &Shared, seat: &mut Seat, claim: u32)
         .shared
         .store::<Clears>(&mut seat.inner, place, 0);
     seat.claims[claim as usize] = 0;
+    seat.take_notes_back(claim);
 }

@@ -1,4 +1,4 @@
-use Rattle.std.proofs.Common.{◌*◌, ◌∙◌, refl, replicate, subst, sym, ap, true, false, arith}
+use Rattle.std.proofs.Common.{◌*◌, ◌∙◌, ℕ, length, refl, replicate, subst, sym, ap, true, false, arith}
 use Rattle.std.proofs.Math.Nat.{mul_comm}
 use Rattle.atomic_table.specs.Table.{Me}
 use Rattle.seat_history.specs.declared.call.Call.{Call}
@@ -24,6 +24,7 @@ invariant_of-result c = let p = c.args.plan.now in let swapped = mul_comm p.shar
   free = c.args.free;
   holding = c.args.holding;
   retired = c.args.retired;
+  noted = c.args.noted;
   claims = replicate CLAIMS 0;
   scan_next = 0;
   scan_old = 0;
@@ -36,12 +37,14 @@ invariant_of-result c = let p = c.args.plan.now in let swapped = mul_comm p.shar
   changes = ap (λ n. p.changes * n) (c.from.ensures ∙ sym (length-count_up 0 p.seats));
   removes = ap (λ n. p.removes * n) (sym (length-count_up 0 p.seats));
   retired = c.requires.none.1;
+  few_noted = omega (arith, ap (length {A = ℕ}) c.requires.none.2);
   claims = refl;
   scan_next = refl;
   scan_old = refl;
-  scan_found = c.requires.none.2;
+  scan_found = c.requires.none.3;
   room_free = omega (arith, room.0);
   room_holding = omega (arith, room.1);
   room_retired = omega (arith, room.2);
-  room_found = room.3;
+  room_noted = omega (arith, room.3);
+  room_found = room.4;
 })

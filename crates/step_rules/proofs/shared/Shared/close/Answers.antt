@@ -13,7 +13,7 @@ use Rattle.step_rules.proofs.Closings.{Closes, closes, none_lost}
 use Rattle.step_rules.proofs.Joining.{quiet_lists}
 use Rattle.step_rules.proofs.shared.Shared.close.Goals as goal
 
-module _ (c : goal.After-drop-seat-inside-2) where
+module _ (c : goal.After-drop-seat-inside-3) where
   object_plan : c.args.self.plan ≡ c.self.inside.plan
   object_plan = sym (ap (λ (o : ObjectData). o.plan) c.self.view_is)
 

@@ -106,6 +106,7 @@ invariant_of-result c = let s = c.seat.inside in let p = c.self.inside.plan in l
       free = c.extend_from_slice.new.self;
       holding = c.args.holding;
       retired = c.args.retired;
+      noted = c.args.noted;
       claims = replicate CLAIMS 0;
       scan_next = 0;
       scan_old = 0;
@@ -118,14 +119,16 @@ invariant_of-result c = let s = c.seat.inside in let p = c.self.inside.plan in l
       changes = ap (λ (q : Plan). q.changes) (sym (ours c));
       removes = ap (λ (q : Plan). q.removes) (sym (ours c));
       retired = c.requires.empty.2;
+      few_noted = omega (arith, ap (length {A = ℕ}) c.requires.empty.3);
       claims = refl;
       scan_next = refl;
       scan_old = refl;
-      scan_found = c.requires.empty.3;
+      scan_found = c.requires.empty.4;
       room_free = omega (arith, share_is, room.0, c.extend_from_slice.ensures.capacity, share c, removed c);
       room_holding = omega (arith, share_is, room.1, share c, removed c);
       room_retired = omega (arith, share_is, room.2, share c, removed c);
-      room_found = omega (arith, room.3, seats c);
+      room_noted = omega (arith, share_is, room.3, share c, removed c);
+      room_found = omega (arith, room.4, seats c);
     })
 
 pub returns : goal.returns
@@ -137,19 +140,21 @@ returns c = record {
           (kept_me c i).0;
       free = kept_free c i;
       holding = c.seat.inside.holding.items;
+      noted = c.seat.inside.noted.items;
       first = c.seat.inside.first;
       fresh = c.seat.inside.fresh;
     })
-        ∙ ap (λ (s : SeatData). record { object = s.object; view = left_view s.view; free = take (cut s) s.free; holding = s.holding; first = s.first; fresh = s.fresh }) c.seat.view_is;
+        ∙ ap (λ (s : SeatData). record s { view = left_view s.view; free = take (cut s) s.free }) c.seat.view_is;
     right = (λ i. record {
       object = (c.settle-2.ensures.same.0 ∙ c.split_seat-inner.ensures.3) i;
       view =
           (made_me c i).0;
       free = made_free c i;
       holding = c.requires.empty.1 i;
+      noted = c.requires.empty.3 i;
       first = false;
       fresh = true;
     })
-        ∙ ap (λ (s : SeatData). record { object = s.object; view = right_view s.view; free = drop (cut s) s.free; holding = []; first = false; fresh = true }) c.seat.view_is;
+        ∙ ap (λ (s : SeatData). record { object = s.object; view = right_view s.view; free = drop (cut s) s.free; holding = []; noted = []; first = false; fresh = true }) c.seat.view_is;
   };
 }

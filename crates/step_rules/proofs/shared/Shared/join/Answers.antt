@@ -59,7 +59,7 @@ invariant_of-into c =
 
 -- the first seat then, as contracts see it
 abbrev joined_data : SeatData → SeatData → SeatData
-joined_data old from = record { object = old.object; view = joined_view old.view from.view; free = old.free ++ from.free; holding = old.holding; first = old.first; fresh = false }
+joined_data old from = record { object = old.object; view = joined_view old.view from.view; free = old.free ++ from.free; holding = old.holding; noted = old.noted; first = old.first; fresh = false }
 
 pub returns : goal.returns
 returns c =
@@ -73,6 +73,7 @@ returns c =
       view = (same i).0;
       free = c.in-Ok.ensures.items i;
       holding = c.into.inside.holding.items;
+      noted = c.into.inside.noted.items;
       first = c.into.inside.first;
       fresh = false;
     }) ∙ (λ i. joined_data (c.into.view_is i) (c.from.view_is i)) in

@@ -1,12 +1,12 @@
-use Rattle.std.proofs.Common.{◌+◌, ◌*◌, ◌<◌, ◌≤◌, sym, ap, ◌∙◌, subst, arith}
+use Rattle.std.proofs.Common.{ℕ, ◌+◌, ◌*◌, ◌/◌, ◌<◌, ◌≤◌, ◌∷◌, ◌++◌, length, sym, ap, ◌∙◌, subst, arith}
 use Rattle.seat_history.specs.declared.call.Call.{Call}
 use Rattle.step_rules.proofs.Owed.{exchange_call, meets, plan_of}
 use Rattle.step_rules.proofs.Tied.{exchange_there, whole_looked}
 use Rattle.step_rules.proofs.Winning.{room_won, whole_won}
-use Rattle.step_rules.specs.Kinds.Backup.{DropsFirst, MayExchange, Wins}
+use Rattle.step_rules.specs.Kinds.Backup.{MayExchange, Wins}
 use Rattle.step_rules.specs.Layout.{backup_at, cells, nodes}
 use Rattle.step_rules.specs.SeatData.{SeatData}
-use Rattle.step_rules.specs.Steps.{HoldsFront}
+use Rattle.step_rules.specs.Steps.{DropsNoted, HoldsFront}
 use Rattle.step_rules.specs.declared.layout.TheConstants.{MOST_NODES}
 use Rattle.step_rules.specs.declared.plan.Plan.{Plan}
 use Rattle.step_rules.proofs.steps.backup.exchange_told.Goals as goal
@@ -45,18 +45,20 @@ overflow_cast-seen g c =
     let most = subst (λ (p : Plan). nodes p ≤ MOST_NODES) (c.shared.invariant.2 ∙ sym m.key_is) c.shared.invariant.1 in
     omega arith
 
--- an own node becomes a retired one
-pub push_reserved-requires : goal.push_reserved-requires
-push_reserved-requires g c =
+-- own nodes become retired ones
+pub retire-requires : goal.retire-requires
+retire-requires g c =
     let told = c.compare_exchange-found.ensures.2 in
     let at = (meets c.seat.view_is c.shared.view_is c.requires.ours c.shared.invariant.2 c.shared.invariant.3).at (λ p. backup_at p c.args.cell) _ c.backup_place-place.ensures.0 in
     let may = subst (λ (d : SeatData). MayExchange c.args.cell c.args.seen c.args.node c.args.call d.view) (sym c.seat.view_is) c.requires.may in
     let front = subst (λ (d : SeatData). HoldsFront c.args.node c.args.call d) (sym c.seat.view_is) c.requires.front in
-    let drops = subst (λ (d : SeatData). DropsFirst c.args.call d.view) (sym c.seat.view_is) c.requires.first in
+    let drops = subst (λ (d : SeatData). DropsNoted c.args.call d) (sym c.seat.view_is) c.requires.noted in
     let wins = (told.2 c.args.cell c.args.node at (ap (λ m. 2 * m + 1) c.from.ensures)).0 c.if-found-seen.false in
     let room = room_won c.seat.inside c.seat.invariant c.compare_exchange-found.new.seat told.0 told.1 c.args.cell c.args.seen c.args.node c.args.call may front drops
     (subst (λ (z : Call). Wins c.args.cell c.args.seen c.args.node z c.seat.inside.inner.me.0 c.compare_exchange-found.new.seat.me.0) (sym c.requires.told) wins) in
-    omega arith
+    record {
+      room = omega (arith, ap (length {A = ℕ}) c.deref.ensures.value);
+    }
 
 pub invariant_of-seat-2 : goal.invariant_of-seat-2
 invariant_of-seat-2 g c =
@@ -64,8 +66,9 @@ invariant_of-seat-2 g c =
     let at = (meets c.seat.view_is c.shared.view_is c.requires.ours c.shared.invariant.2 c.shared.invariant.3).at (λ p. backup_at p c.args.cell) _ c.backup_place-place.ensures.0 in
     let may = subst (λ (d : SeatData). MayExchange c.args.cell c.args.seen c.args.node c.args.call d.view) (sym c.seat.view_is) c.requires.may in
     let front = subst (λ (d : SeatData). HoldsFront c.args.node c.args.call d) (sym c.seat.view_is) c.requires.front in
-    let drops = subst (λ (d : SeatData). DropsFirst c.args.call d.view) (sym c.seat.view_is) c.requires.first in
+    let drops = subst (λ (d : SeatData). DropsNoted c.args.call d) (sym c.seat.view_is) c.requires.noted in
     let wins = (told.2 c.args.cell c.args.node at (ap (λ m. 2 * m + 1) c.from.ensures)).0 c.if-found-seen.false in
     whole_won c.seat.inside c.seat.invariant c.compare_exchange-found.new.seat told.0 told.1 c.args.cell c.args.seen c.args.node c.args.call may front drops
     (subst (λ (z : Call). Wins c.args.cell c.args.seen c.args.node z c.seat.inside.inner.me.0 c.compare_exchange-found.new.seat.me.0) (sym c.requires.told) wins)
-    _ c.clear.new.self c.push_reserved.new.self c.removes_of.ensures c.clear.ensures.items c.push_reserved.ensures.items c.clear.ensures.capacity c.push_reserved.ensures.capacity
+    _ c.clear.new.self c.retire.new.retired c.removes_of.ensures c.clear.ensures.items
+    (c.retire.ensures.items ∙ ap (λ l. c.seat.inside.retired.items ++ c.args.seen / 2 ∷ l) c.deref.ensures.value) c.clear.ensures.capacity c.retire.ensures.capacity

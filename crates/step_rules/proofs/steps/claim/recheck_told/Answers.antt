@@ -1,6 +1,6 @@
 use Rattle.std.proofs.Common.{ℕ, ◌<◌, sym, ◌∙◌, subst, ⊎_elim}
 use Rattle.step_rules.proofs.Owed.{meets, recheck_call}
-use Rattle.step_rules.proofs.Tied.{whole_rechecked, whole_walked}
+use Rattle.step_rules.proofs.Tied.{data_of, whole_rechecked, whole_walked}
 use Rattle.atomic_table.specs.Seated.{TableId}
 use Rattle.step_rules.specs.Claims.{Tells}
 use Rattle.step_rules.specs.Kinds.Claiming.{Rechecks}
@@ -13,8 +13,8 @@ use Rattle.step_rules.specs.declared.seat.Seat.TheInside.{Inside}
 use Rattle.step_rules.proofs.steps.claim.recheck_told.Goals as goal
 
 -- a seat as contracts see it, of this object
-abbrev data_of : Inside → TableId → SeatData
-data_of s object = record { object = object; view = s.inner.me.0; free = s.free.items; holding = s.holding.items; first = s.first; fresh = s.fresh }
+abbrev data_at : Inside → TableId → SeatData
+data_at s object = record (data_of s) { object = object }
 
 pub load-requires : goal.load-requires
 load-requires g c =
@@ -52,9 +52,9 @@ returns-clause-told g c tells =
     let v = s.inner.me.0 in
     let at = (meets c.seat.view_is c.shared.view_is c.requires.ours c.shared.invariant.2 c.shared.invariant.3).at (λ p. backup_at p c.args.cell) _ c.backup_place-place.ensures.0 in
     let told = c.load.ensures.2.0 (subst (λ (x : ℕ). Tells x) c.requires.told.0 tells) in
-    subst (λ (d : SeatData). IsRechecked c.args.claim c.args.cell c.args.seen c.load.result d (stepped c.load.new.seat.me.0 (data_of s c.load.new.seat.table_id))) c.seat.view_is (record {
+    subst (λ (d : SeatData). IsRechecked c.args.claim c.args.cell c.args.seen c.load.result d (stepped c.load.new.seat.me.0 (data_at s c.load.new.seat.table_id))) c.seat.view_is (record {
       rechecks = subst (λ (z : ℕ × ℕ). Rechecks z.0 c.args.cell z.1 c.load.result v c.load.new.seat.me.0) (λ i. (sym c.requires.told.0 i, sym c.requires.told.1 i)) (told.2 c.args.cell at);
-      same = λ i. stepped c.load.new.seat.me.0 (data_of s (c.load.ensures.0 i));
+      same = λ i. stepped c.load.new.seat.me.0 (data_at s (c.load.ensures.0 i));
     })
 
 pub returns-clause-walked : goal.returns-clause-walked
@@ -63,8 +63,8 @@ returns-clause-walked g c walk =
     let s = c.seat.inside in
     let v = s.inner.me.0 in
     let at = (meets c.seat.view_is c.shared.view_is c.requires.ours c.shared.invariant.2 c.shared.invariant.3).at (λ p. backup_at p c.args.cell) _ c.backup_place-place.ensures.0 in
-    subst (λ (d : SeatData). IsWalked c.args.cell c.args.seen c.load.result d (stepped c.load.new.seat.me.0 (data_of s c.load.new.seat.table_id))) c.seat.view_is (record {
+    subst (λ (d : SeatData). IsWalked c.args.cell c.args.seen c.load.result d (stepped c.load.new.seat.me.0 (data_at s c.load.new.seat.table_id))) c.seat.view_is (record {
       walks = λ n named. subst (λ (z : ℕ). WalkRechecks c.args.cell z c.load.result n v c.load.new.seat.me.0) (sym c.requires.told.1)
           ((c.load.ensures.2.1 (sym c.requires.told.0 ∙ walk) n named).2 c.args.cell at);
-      same = λ i. stepped c.load.new.seat.me.0 (data_of s (c.load.ensures.0 i));
+      same = λ i. stepped c.load.new.seat.me.0 (data_at s (c.load.ensures.0 i));
     })
