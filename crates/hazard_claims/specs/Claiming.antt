@@ -9,7 +9,7 @@ use Rattle.step_rules.specs.Kinds.Backup.{Looks}
 use Rattle.step_rules.specs.Kinds.Claiming.{Claims}
 use Rattle.step_rules.specs.Kinds.Walking.{Walks}
 use Rattle.step_rules.specs.SeatData.{SeatData}
-use Rattle.step_rules.specs.Steps.{stepped}
+use Rattle.step_rules.specs.Steps.{stepped, unnoted}
 use Rattle.step_rules.specs.Views.{announced_view, claim_of, cleared_view}
 use Rattle.step_rules.specs.declared.view.Kind.TheVariants.{Recheck}
 use Rattle.step_rules.specs.declared.view.View.{View}
@@ -21,13 +21,13 @@ claim_number Walk = WALK
 claim_number Own = OWN
 claim_number Hold = HOLD
 
--- the claim's word names the node, by one claim store
+-- the claim's word names the node, by one claim store; under Back no link is noted then
 abbrev pub IsAnnounced : Claim → ℕ → SeatData → SeatData → Type 0
-IsAnnounced claim node old new = new ≡ stepped (announced_view (claim_number claim) node old.view) old
+IsAnnounced claim node old new = new ≡ stepped (announced_view (claim_number claim) node old.view) (unnoted (claim_number claim) old)
 
--- the claim's word is 0, by one claim clear
+-- the claim's word is 0, by one claim clear; of Back, with no link noted then
 abbrev pub IsReleased : Claim → SeatData → SeatData → Type 0
-IsReleased claim old new = new ≡ stepped (cleared_view (claim_number claim) old.view) old
+IsReleased claim old new = new ≡ stepped (cleared_view (claim_number claim) old.view) (unnoted (claim_number claim) old)
 
 -- the claim stands from the recheck on: on Walk on the link that was announced, else on the node found
 abbrev pub Stands : Claim → ℕ → ℕ → ℕ → View → View → Type 0

@@ -1,1 +1,3 @@
 mod Fills
+mod PutBack
+pub mod Taken

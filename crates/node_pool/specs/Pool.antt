@@ -1,8 +1,8 @@
 -- What becomes of a seat's nodes.
-use Rattle.std.specs.Prelude.{◌≡◌, ◌≢◌, ℕ, true, suc, List, [], ◌∷◌, ◌++◌, length}
+use Rattle.std.specs.Prelude.{◌≡◌, ◌≢◌, ℕ, ◌+◌, true, suc, List, [], ◌∷◌, ◌++◌, length}
 use mathlib.Core.Option.{some}
 use lib.ListN.{get_elem?}
-use Rattle.step_rules.specs.Bags.{IsWithout}
+use Rattle.step_rules.specs.Bags.{IsWithout, times}
 use Rattle.step_rules.specs.Claims.{On}
 use Rattle.step_rules.specs.SeatData.{SeatData}
 use Rattle.step_rules.specs.Steps.{stepped}
@@ -49,4 +49,10 @@ pub record IsRead (node : ℕ) (words : List ℕ) (old new : SeatData) : Type 0 
 pub record IsPutBack (node : ℕ) (old new : SeatData) : Type 0 where
   pub free : new.free ≡ old.free ++ node ∷ []
   pub holding : IsWithout node old.holding new.holding
+  pub same : new ≡ record old { free = new.free; holding = new.holding }
+
+-- every node that was held is free again, by no step
+pub record IsAllPutBack (old new : SeatData) : Type 0 where
+  pub holding : new.holding ≡ []
+  pub free : (n : ℕ) → times n new.free ≡ times n old.free + times n old.holding
   pub same : new ≡ record old { free = new.free; holding = new.holding }

@@ -2,8 +2,8 @@
 #![tactic(auto)]
 
 ghost use Rattle.std.specs.Prelude.{◌≡◌, ◌<◌, true, length};
-ghost use Rattle.node_pool.specs.Pool.{IsFilled, IsPutBack, IsRead, IsTaken};
-ghost use Rattle.step_rules.specs.SeatData.{IsOf};
+ghost use Rattle.node_pool.specs.Pool.{IsAllPutBack, IsFilled, IsPutBack, IsRead, IsTaken};
+ghost use Rattle.step_rules.specs.SeatData.{IsOf, NoneAnnounced};
 ghost use Rattle.step_rules.specs.Steps.{IsUnannounced, MayLoad};
 ghost use Rattle.step_rules.specs.World.{has};
 
@@ -45,6 +45,18 @@ pub fn put_back(_shared: &Shared, seat: &mut Seat, node: u32)
     ensures free { IsPutBack node seat.old seat.new }
 {
     seat.unhold(node);
+}
+
+/// Makes every held node free again.
+pub fn put_back_all(shared: &Shared, seat: &mut Seat)
+    requires ours { IsOf shared.now seat.old }
+    requires unannounced { NoneAnnounced seat.old.holding seat.old.view }
+    ensures free { IsAllPutBack seat.old seat.new }
+{
+    'nodes: while seat.holding() > 0 {
+        let node = seat.next_held();
+        put_back(shared, seat, node);
+    }
 }
 
 /// Reads all words of a node that the seat holds, or that a claim of it stands on.
