@@ -1,3 +1,5 @@
+mod Copies
 pub mod Passing
+mod Putting
 mod Seeking
 mod Ways

@@ -30,14 +30,15 @@ back_claim cell v sound b = sound.claims.told BACK b.node (claim_of BACK v) (cla
 pub back_inside : (cell : ℕ) (v : View) → Sound v → HasBack cell v → cell < cells v.plan
 back_inside cell v sound b = subst (λ k. k < cells v.plan) b.cell_is (back_claim cell v sound b).cell
 
--- the Back claim, the object and the plan stay
+-- the Back claim, the links noted, the object and the plan stay
 pub record Kept (old now : SeatData) : Type 0 where
   pub back : claim_of BACK now.view ≡ claim_of BACK old.view
+  pub noted : now.noted ≡ old.noted
   pub object : now.object ≡ old.object
   pub plan : now.view.plan ≡ old.view.plan
 
 pub kept_then : {a b c : SeatData} → Kept a b → Kept b c → Kept a c
-kept_then p q = record { back = q.back ∙ p.back; object = q.object ∙ p.object; plan = q.plan ∙ p.plan }
+kept_then p q = record { back = q.back ∙ p.back; noted = q.noted ∙ p.noted; object = q.object ∙ p.object; plan = q.plan ∙ p.plan }
 
 pub kept_pages : {old now : SeatData} → Kept old now → claimed_pages now.view ≡ claimed_pages old.view
 kept_pages k = ap (λ (x : Claim). x.pages) k.back
@@ -49,11 +50,17 @@ pub kept_of : {shared : ObjectData} {old now : SeatData} → Kept old now → Is
 kept_of k of = record { object = k.object ∙ of.object; plan = k.plan ∙ of.plan }
 
 pub read_kept : {node : ℕ} {words : List ℕ} {old now : SeatData} → IsRead node words old now → Kept old now
-read_kept r = record { back = ap (λ (z : SeatData). claim_of BACK z.view) r.same; object = ap (λ (z : SeatData). z.object) r.same; plan = ap (λ (z : SeatData). z.view.plan) r.same }
+read_kept r = record {
+  back = ap (λ (z : SeatData). claim_of BACK z.view) r.same;
+  noted = ap (λ (z : SeatData). z.noted) r.same;
+  object = ap (λ (z : SeatData). z.object) r.same;
+  plan = ap (λ (z : SeatData). z.view.plan) r.same;
+}
 
 pub announced_kept : (link : ℕ) (old now : SeatData) → IsAnnounced Walk link old now → Kept old now
 announced_kept link old now a = record {
   back = ap (λ (z : SeatData). claim_of BACK z.view) a ∙ get_or-set_other old.view.claims WALK BACK (announced WALK link old.view) (silent 0) (λ e. absurd (omega arith));
+  noted = ap (λ (z : SeatData). z.noted) a;
   object = ap (λ (z : SeatData). z.object) a;
   plan = ap (λ (z : SeatData). z.view.plan) a;
 }
@@ -92,6 +99,7 @@ module _ (cell seen found link : ℕ) (mid re : SeatData) (sound : Sound mid.vie
   rechecked_kept = record {
     back = ap (λ (z : View). claim_of BACK z) walks.after
         ∙ get_or-set_other mid.view.claims WALK BACK (walked_claim link cell (length walks.log) mid.view) (silent 0) (λ e. absurd (omega arith));
+    noted = ap (λ (z : SeatData). z.noted) r.same;
     object = ap (λ (z : SeatData). z.object) r.same;
     plan = ap (λ (z : View). z.plan) walks.after;
   }

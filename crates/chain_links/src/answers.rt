@@ -1,4 +1,4 @@
-use seat_history::ValWords;
+use seat_history::{KeyWords, ValWords};
 
 /// What a walk finds.
 #[derive(Clone, Copy, Debug, Drop, PartialEq, Eq)]
@@ -8,5 +8,21 @@ pub enum Walk {
     /// The key isn't on the chain, which has so many records.
     End { length: u32 },
     /// The cell named another node.
+    Moved,
+}
+
+/// A change of a chain's records.
+#[derive(Clone, Copy, Debug, Drop, PartialEq, Eq)]
+pub enum Edit {
+    /// A new record before all others.
+    Insert { key: KeyWords, val: ValWords },
+}
+
+/// What comes of copying a chain's front.
+#[derive(Clone, Copy, Debug, Drop, PartialEq, Eq)]
+pub enum Front {
+    /// The seat holds the nodes of the front, and this is the first.
+    Ready { node: u32 },
+    /// The cell named another node, and every node that was taken is free again.
     Moved,
 }

@@ -1,9 +1,11 @@
-//! Walks along the chain of a bucket.
+//! Walks along the chain of a bucket, and copies of its front.
 #![tactic(auto)]
 
 mod answers;
+mod fronts;
 mod pages;
 mod walks;
 
-pub use answers::Walk;
+pub use answers::{Edit, Front, Walk};
+pub use fronts::copy_front;
 pub use walks::walk;

@@ -14,7 +14,7 @@ use step_rules::{END, Seat, Shared};
 
 /// Looks for a key on the chain that the seat's Back claim stands on. Each link is announced in Walk,
 /// and read once the cell was found to name Back's node still. Moved comes only where it names another
-/// one; the link announced last stays in Walk.
+/// one; the link announced last stays in Walk. What is noted stays, too.
 pub fn walk(shared: &Shared, seat: &mut Seat, cell: u32, key: KeyWords) -> Walk
     requires ours { IsOf shared.now seat.old }
     requires back { HasBack cell seat.old.view }
