@@ -5,6 +5,7 @@ use Rattle.std.proofs.lemmas.Bool.{false≢true}
 use Rattle.std.proofs.lemmas.List.{drop-append-le, get_or-set_other, get_or-set_same, length-set}
 use mathlib.Core.Option.{some, some-injective}
 use lib.ListN.{get_elem?}
+use Rattle.big_atomic.proofs.Balance.{balance}
 use Rattle.big_atomic.proofs.Goings.{goes_still, goes_then, held_stays, looked_before, looked_more, looked_then}
 use Rattle.big_atomic.proofs.Paid.{AreStill}
 use Rattle.big_atomic.specs.Calling.{Goes, IsLooked, OnlySteps, Began}
@@ -31,7 +32,7 @@ use Rattle.step_rules.specs.Layout.{nodes}
 use Rattle.step_rules.specs.Lawful.{IsReply, IsRight, held_by, is_full}
 use Rattle.step_rules.specs.SeatData.{IsOf, IsSeat, ObjectData, SeatData}
 use Rattle.step_rules.specs.Sound.{Sound}
-use Rattle.step_rules.specs.Steps.{HasLooked, HasScanned, MayAnswer, stepped}
+use Rattle.step_rules.specs.Steps.{HasLooked, HasScanned, MayAnswer, stepped, unnoted}
 use Rattle.step_rules.specs.Views.{claim_of, cleared_view, counted, number, reading, silent, stock, stood_view}
 use Rattle.step_rules.specs.declared.layout.TheConstants.{NODE_WIDTH}
 use Rattle.step_rules.specs.declared.plan.Plan.{Plan}
@@ -105,7 +106,7 @@ may_answer {reg = reg} {look = look} {q = q} {call = call} {reply = reply} {step
 
 -- the view after the call's claim on Back is ended, by these steps, or none was to end
 pub record HasEnded (now : SeatData) (mid : View) (clear : List Counted) : Type 0 where
-  pub view : mid ≡ record now.view { claims = mid.claims; links = mid.links; trail = mid.trail }
+  pub view : mid ≡ record now.view { claims = mid.claims; trail = mid.trail }
   pub trail : mid.trail ≡ now.view.trail ++ clear
   pub still : AreStill clear
   pub few : length clear ≤ 1
@@ -206,7 +207,7 @@ scanned_ended v within h =
       own_words = own_words_later refl refl hold h.own_words;
     }
 
-pub may_ended : (q : ℕ) (call : Call) (reply : Reply) (now : SeatData) → Sound now.view → MayAnswer q call reply now → MayAnswer q call reply (stepped (cleared_view BACK now.view) now)
+pub may_ended : (q : ℕ) (call : Call) (reply : Reply) (now : SeatData) → Sound now.view → MayAnswer q call reply now → MayAnswer q call reply (stepped (cleared_view BACK now.view) (unnoted BACK now))
 may_ended q call reply now sound may = record {
   there = may.there;
   stand = record { right = record { place = may.stand.right.place; reply = may.stand.right.reply; changes = may.stand.right.changes; entry = may.stand.right.entry }; above = may.stand.above };
@@ -227,8 +228,8 @@ goes_ended : {reg look q : ℕ} {call : Call} {reply : Reply} {steps clear : Lis
 goes_ended {reg = reg} {clear = clear} {now = now} {mid = mid} m e = goes_still reg clear now (stepped mid now) (subst (λ (z : View). OnlySteps now.view z) (sym e.view) refl) e.trail
     (ap (λ (z : View). z.seen) e.view) e.still refl refl (ap stock e.view) e.sound
 
-pub answered_now : {reg look q : ℕ} {call : Call} {reply : Reply} {steps clear : List Counted} {before now : SeatData} {mid : View} (after : SeatData)
-    → MayEnd reg look q call reply steps before now → HasEnded now mid clear → after ≡ stepped (stood_view q call reply mid) now → IsSeat after
+pub answered_now : {reg look q : ℕ} {call : Call} {reply : Reply} {steps clear : List Counted} {before now : SeatData} {mid : View} {links : List ℕ} (after : SeatData)
+    → MayEnd reg look q call reply steps before now → HasEnded now mid clear → after ≡ record (stepped (stood_view q call reply mid) now) { noted = links } → IsSeat after
     → HasAnswered reg look call reply (steps ++ clear) (reading q call reply now.view) before after
 answered_now {reg = reg} {look = look} {q = q} {call = call} {reply = reply} {steps = steps} {clear = clear} {before = before} {now = now} {mid = mid} after m e is last =
     let all : Goes reg None (steps ++ clear) before (stepped mid now) = goes_then m.goes (goes_ended m e) in
@@ -238,16 +239,17 @@ answered_now {reg = reg} {look = look} {q = q} {call = call} {reply = reply} {st
     let reads : reading q call reply mid ≡ reading q call reply now.view = ap (λ (z : View). reading q call reply z) e.view in
     let sound = last.sound in
     let within = sound.within in
-    let free = ap (λ (z : SeatData). length z.free) is in
-    let held = ap (λ (z : SeatData). length z.holding) is ∙ ap (λ (l : List ℕ). length l) m.idle_now in
-    let held_before = ap (λ (l : List ℕ). length l) m.idle in
-    let kept : stock after.view ≡ stock before.view = ap stock view ∙ all.stock in
+    let stands : after.view.stands ≡ before.view.stands ++ reading q call reply now.view ∷ [] =
+    ap (λ (z : View). z.stands) view ∙ (λ i. ap (λ (z : View). z.stands) all.only i ++ reads i ∷ []) in
+    let goes_on : GoesOn before.view.seen after.view.seen = subst (λ (l : List Entry). GoesOn before.view.seen l) (sym seen) all.seen in
+    let plan : after.view.plan ≡ before.view.plan = ap (λ (z : View). z.plan) view ∙ ap (λ (z : View). z.plan) all.only in
+    let numbers : after.view.numbers ≡ before.view.numbers = ap (λ (z : View). z.numbers) view ∙ ap (λ (z : View). z.numbers) all.only in
     record {
       answered = record {
         stand = reading q call reply now.view;
         steps = steps ++ clear;
         stood = record {
-          stands = ap (λ (z : View). z.stands) view ∙ (λ i. ap (λ (z : View). z.stands) all.only i ++ reads i ∷ []);
+          stands = stands;
           by = ap (λ (z : View). number z) m.goes.only;
           call = refl;
           reply = refl;
@@ -261,17 +263,17 @@ answered_now {reg = reg} {look = look} {q = q} {call = call} {reply = reply} {st
               (λ i. (sym (ap (λ (z : View). z.plan) view ∙ ap (λ (z : View). z.plan) e.view) i, sym (seen ∙ ap (λ (z : View). z.seen) e.view) i, ap (λ (z : View). z.stands) m.goes.only i)) m.right;
           lawful = sound.lawful;
           history = sound.history;
-          seen = subst (λ (l : List Entry). GoesOn before.view.seen l) (sym seen) all.seen;
+          seen = goes_on;
           within = omega arith;
-          plan = ap (λ (z : View). z.plan) view ∙ ap (λ (z : View). z.plan) all.only;
-          numbers = ap (λ (z : View). z.numbers) view ∙ ap (λ (z : View). z.numbers) all.only;
+          plan = plan;
+          numbers = numbers;
           changes = omega (arith, ap (λ (z : View). z.changes) view, ap (λ (z : View). z.changes) all.only);
           removes = ap (λ (z : View). z.removes) view ∙ ap (λ (z : View). z.removes) all.only;
         };
         nodes = record {
           object = ap (λ (z : SeatData). z.object) is ∙ m.goes.object;
           first = ap (λ (z : SeatData). z.first) is ∙ m.goes.first;
-          nodes = omega (arith, kept, held, held_before, last.long, m.first.long);
+          even = balance (reading q call reply now.view) m.first last m.idle (ap (λ (z : SeatData). z.holding) is ∙ m.idle_now) stands goes_on plan numbers;
         };
         paid = subst (λ (l : List Entry). TurnsArePaid before.view.plan reg (number before.view) l None (steps ++ clear)) (sym seen) all.paid;
         few = subst (λ (l : List Entry). lost_steps (steps ++ clear) ≤ changes_on before.view.plan reg (number before.view) (drop look l)) (sym seen) looks.few;
@@ -283,7 +285,7 @@ answered_now {reg = reg} {look = look} {q = q} {call = call} {reply = reply} {st
 
 -- the call stood, and its Back claim is ended
 abbrev pub EndsAs : ℕ → Call → Reply → SeatData → SeatData → Type 0
-EndsAs q call reply now after = after ≡ stepped (stood_view q call reply (cleared_view BACK now.view)) now
+EndsAs q call reply now after = after ≡ stepped (stood_view q call reply (cleared_view BACK now.view)) (unnoted BACK now)
 
 -- what is held after a stand
 pub held_then : (q : ℕ) (call : Call) (reply : Reply) (v w : View) → w ≡ stood_view q call reply v
@@ -291,8 +293,9 @@ pub held_then : (q : ℕ) (call : Call) (reply : Reply) (v w : View) → w ≡ s
 held_then q call reply v w e = ap (λ (z : View). held_by z.seen (number z) z.stands) e ∙ held_next v.seen (number v) v.stands (reading q call reply v) refl
 
 -- the held record stays where the call neither holds nor releases one
-pub hold_stays : {reg look q : ℕ} {call : Call} {reply : Reply} {steps clear : List Counted} {before now : SeatData} {mid : View} (after : SeatData)
-    → MayEnd reg look q call reply steps before now → HasEnded now mid clear → after ≡ stepped (stood_view q call reply mid) now → claim_of HOLD now.view ≡ claim_of HOLD before.view
+pub hold_stays : {reg look q : ℕ} {call : Call} {reply : Reply} {steps clear : List Counted} {before now : SeatData} {mid : View} {links : List ℕ} (after : SeatData)
+    → MayEnd reg look q call reply steps before now → HasEnded now mid clear → after ≡ record (stepped (stood_view q call reply mid) now) { noted = links }
+    → claim_of HOLD now.view ≡ claim_of HOLD before.view
     → ((c : Contents) (held : Option (List ℕ)) → held_after c held call ≡ held) → HoldStays before after
 hold_stays {reg = reg} {q = q} {call = call} {reply = reply} {steps = steps} {before = before} {now = now} {mid = mid} after m e is hold idle =
     let view : after.view ≡ stood_view q call reply mid = ap (λ (z : SeatData). z.view) is in record {

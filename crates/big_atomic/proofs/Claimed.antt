@@ -1,7 +1,7 @@
 -- Looks at a register, and claims on the node that its cell names.
 use Rattle.std.proofs.Common.{◌≡◌, ◌≢◌, ◌∙◌, ℕ, ◌+◌, ◌/◌, ◌^◌, ◌<◌, ◌≤◌, suc, Bool, true, false, not, cond, eqb, eq-eqb, ne_eqb, List, [], ◌∷◌, ◌++◌, Some, None}
 use Rattle.std.proofs.Common.{length, take, drop, set, get_or, refl, sym, ap, subst, arith, inr, ⊎_elim}
-use Rattle.std.proofs.lemmas.Bool.{cases_lt}
+use Rattle.std.proofs.lemmas.Bool.{cases_lt, cond-true}
 use Rattle.std.proofs.lemmas.List.{drop-append-le, get_or-set_other, get_or-set_same, length-set}
 use Rattle.std.proofs.Math.ListN.{drop_of_length-le}
 use Rattle.std.proofs.Math.Seq.{drop-append_seam, take-append_seam}
@@ -23,11 +23,12 @@ use Rattle.seat_history.specs.declared.entry.Entry.{Entry}
 use Rattle.seat_history.specs.declared.words.TheConstants.{WIDTH}
 use Rattle.step_rules.proofs.Advance.{none_on_parts}
 use Rattle.step_rules.proofs.Contents.{wide_register}
+use Rattle.step_rules.proofs.Notes.{only_stepped, only_stepped_then}
 use Rattle.step_rules.proofs.Places.{at_there}
 use Rattle.step_rules.proofs.Registers.{claim_record}
 use Rattle.step_rules.proofs.Sizes.{nodes_low}
 use Rattle.step_rules.proofs.Trails.{longer_seen}
-use Rattle.step_rules.specs.Claims.{On, Tells}
+use Rattle.step_rules.specs.Claims.{BACK, On, Tells}
 use Rattle.step_rules.specs.History.{GoesOn, NoneOn}
 use Rattle.step_rules.specs.Kinds.Backup.{Looks}
 use Rattle.step_rules.specs.Kinds.Claiming.{Claims}
@@ -43,13 +44,9 @@ use Rattle.step_rules.specs.declared.view.Counted.{Counted}
 use Rattle.step_rules.specs.declared.view.Kind.TheVariants.{BackupLoad, ClaimStore, Recheck}
 use Rattle.step_rules.specs.declared.view.View.{View}
 
--- one step after others, of which each gave the seat a new view alone
-pub stepped_then : (a b c : SeatData) → b ≡ stepped b.view a → c ≡ stepped c.view b → c ≡ stepped c.view a
-stepped_then a b c p q = q ∙ ap (λ (z : SeatData). stepped c.view z) p
-
 pub stays_then : (c : ℕ) (u v w : SeatData) → Stays c u v → Stays c v w → Stays c u w
 stays_then c u v w p q = record {
-  same = stepped_then u v w p.same q.same;
+  same = only_stepped_then u v w p.same q.same;
   retired = q.retired ∙ p.retired;
   own = q.own ∙ p.own;
   others = λ d ne. q.others d ne ∙ p.others d ne;
@@ -121,7 +118,7 @@ module _ (which : Which) (reg seen : ℕ) (old mid new : SeatData) (t : Turning 
 
   turn_stays : new ≡ stepped new.view mid → new.view.retired ≡ mid.view.retired → new.view.own ≡ mid.view.own → ((d : ℕ) → d ≢ c → claim_of d new.view ≡ claim_of d old.view) → Stays c old new
   turn_stays same retired own others = record {
-    same = stepped_then old mid new (t.announced ∙ ap (λ (z : View). stepped z old) (sym mid_view)) same;
+    same = only_stepped_then old mid new (only_stepped old mid t.announced) (only_stepped mid new same);
     retired = retired ∙ ap (λ (z : View). z.retired) mid_view;
     own = own ∙ ap (λ (z : View). z.own) mid_view;
     others = others;
@@ -162,6 +159,7 @@ module _ (which : Which) (reg seen : ℕ) (old mid new : SeatData) (t : Turning 
           cell = ap (λ (x : Claim). x.cell) here;
           now_at = ap (λ (x : Claim). x.at) here ∙ ap (λ (s : List Entry). length s) (sym seen_is);
           found = found;
+          none = λ back. ap (λ (z : SeatData). z.noted) same ∙ (ap (λ (z : SeatData). z.noted) t.announced ∙ cond-true (eqb c BACK) [] old.noted (eq-eqb c BACK back));
         },
       )
 
@@ -279,8 +277,9 @@ record_read c reg node rec mid now tells there sound on cell r =
     sym (r.is ∙ (ap (take WIDTH) (r.read.claimed c x at on ∙ image) ∙ (ap (λ (n : ℕ). take n (is ++ 0 ∷ [])) (sym wide) ∙ take-append_seam is (0 ∷ []))))
 
 -- a claim and what was found stay, where a node's words are read
-pub claim_stays : {c reg node word : ℕ} {words : List ℕ} {mid now : SeatData} → IsRead node words mid now → HasClaim c reg word mid.view → HasClaim c reg word now.view
-claim_stays {c} {reg} {word} r h = subst (λ (z : SeatData). HasClaim c reg word z.view) (sym r.same) (record { stands = h.stands; cell = h.cell; now_at = h.now_at; found = h.found })
+pub claim_stays : {c reg node word : ℕ} {words : List ℕ} {mid now : SeatData} → IsRead node words mid now → HasClaim c reg word mid → HasClaim c reg word now
+claim_stays {c} {reg} {word} r h = subst (λ (z : SeatData). HasClaim c reg word z) (sym r.same)
+    (record { stands = h.stands; cell = h.cell; now_at = h.now_at; found = h.found; none = h.none })
 
 -- the claimed node's record was read
 pub claimed_read : {c reg word : ℕ} {rec : List ℕ} {before mid now : SeatData} → Tells c → reg < before.view.plan.registers
@@ -303,7 +302,7 @@ claimed_read {c} {reg} {word} {rec} {before} {mid} {now} tells there h r sound =
           looked = looked_then g s.looked reads;
           looks = looks_then s.steps steps s.looks (record { none_exchanged = still_exchanges steps still; none_scanned = loads_unscanned (word / 2) 0 (length mid.view.seen) r.words });
           stays = stays_then c before mid now s.stays (record {
-            same = same ∙ ap (λ (z : SeatData). stepped z.view mid) (sym same);
+            same = only_stepped mid now same;
             retired = ap (λ (z : SeatData). z.view.retired) same;
             own = ap (λ (z : SeatData). z.view.own) same;
             others = λ d ne. ap (λ (z : SeatData). claim_of d z.view) same;

@@ -3,7 +3,7 @@ use Rattle.std.proofs.Common.{◌≡◌, ◌∙◌, ℕ, ◌+◌, ◌-◌, ◌*�
 use Rattle.std.proofs.Common.{length, drop, append-nil, length-append, refl, sym, ap, subst, arith, inl, inr, ⊎_elim}
 use Rattle.std.proofs.Math.Seq.{drop-append_seam}
 use Rattle.big_atomic.proofs.Answered.{MayEnd}
-use Rattle.big_atomic.proofs.Claimed.{claim_stays, loads_length, loads_still, loads_unscanned, looks_then, read_goes, record_read, stepped_then}
+use Rattle.big_atomic.proofs.Claimed.{claim_stays, loads_length, loads_still, loads_unscanned, looks_then, read_goes, record_read}
 use Rattle.big_atomic.proofs.Goings.{calling_then}
 use Rattle.big_atomic.proofs.Paid.{scan_loads-append, still_exchanges, still_lost, costs_then, AreStill}
 use Rattle.big_atomic.proofs.Scanning.{scan_all, scan_few, scan_goes, scan_lost, scan_seen, scan_tried, scan_view}
@@ -19,6 +19,7 @@ use Rattle.seat_history.specs.declared.entry.Entry.{Entry}
 use Rattle.seat_history.specs.declared.reply.Reply.{Reply}
 use Rattle.seat_history.specs.declared.reply.Reply.TheVariants.{Full}
 use Rattle.seat_history.specs.declared.words.TheConstants.{WIDTH}
+use Rattle.step_rules.proofs.Notes.{only_stepped, only_stepped_then}
 use Rattle.step_rules.proofs.Places.{at_there}
 use Rattle.step_rules.specs.Claims.{BACK, HOLD, OWN, On, WALK}
 use Rattle.step_rules.specs.History.{IsThere, cell_of}
@@ -26,7 +27,6 @@ use Rattle.step_rules.specs.Kinds.Standing.{first_look}
 use Rattle.step_rules.specs.Lawful.{IsRight}
 use Rattle.step_rules.specs.SeatData.{IsOf, IsSeat, ObjectData, SeatData}
 use Rattle.step_rules.specs.Sound.{Sound}
-use Rattle.step_rules.specs.Steps.{stepped}
 use Rattle.step_rules.specs.Views.{claim_of, look_at, reading, silent}
 use Rattle.step_rules.specs.declared.layout.TheConstants.{NODE_WIDTH}
 use Rattle.step_rules.specs.declared.plan.Plan.{Plan}
@@ -54,14 +54,14 @@ module _ {shared : ObjectData} {reg look : ℕ} {rec : List ℕ} {steps : List C
     calling = calling_then o.calling (read_goes reg (word / 2) r.words mid now r.read sound) (ap (λ (z : View). claim_of HOLD z) read_view);
     began = o.began;
     looks = looks_then steps loads o.looks (record { none_exchanged = still_exchanges loads loads_quiet; none_scanned = loads_unscanned (word / 2) 0 (length mid.view.seen) r.words });
-    same = stepped_then before mid now o.same (r.read.same ∙ ap (λ (z : View). stepped z mid) (sym read_view));
+    same = only_stepped_then before mid now o.same (only_stepped mid now r.read.same);
     retired = ap (λ (z : View). z.retired) read_view ∙ o.retired;
     walk = ap (λ (z : View). (claim_of WALK z).word) read_view ∙ o.walk;
     own = ap (λ (z : View). (claim_of OWN z).word) read_view ∙ o.own;
   }
 
   -- it is the register's at the end of what is seen
-  pub read_there : HasClaim BACK reg word mid.view → register_at now.view (length now.view.seen) reg ≡ rec
+  pub read_there : HasClaim BACK reg word mid → register_at now.view (length now.view.seen) reg ≡ rec
   read_there h = ap (λ (z : View). register_at z (length z.seen) reg) read_view ∙ (ap (λ (n : ℕ). register_at mid.view n reg) (sym h.now_at)
       ∙ record_read BACK reg (word / 2) rec mid now (inl refl)
       (subst (λ (p : Plan). reg < p.registers) (sym (ap (λ (z : View). z.plan) o.calling.goes.only ∙ o.began.ready.ours.plan)) o.began.there) o.calling.goes.sound h.stands h.cell r)
@@ -92,6 +92,7 @@ pub record RoomMade (shared : ObjectData) (reg : ℕ) (steps : List Counted) (lo
   pub claims : (c : ℕ) → (c ≡ WALK → ⊥) → claim_of c w.view ≡ claim_of c u.view
   pub seen : w.view.seen ≡ u.view.seen
   pub looked : w.view.look ≡ u.view.look
+  pub noted : w.noted ≡ u.noted
 
 pub room_made : {shared : ObjectData} {reg look : ℕ} {room : Bool} {steps : List Counted} {before u w : SeatData} → HasOnlyLooked shared reg steps look before u
     → HasRoom room u w → IsSeat u → IsSeat w → RoomMade shared reg steps look before u w
@@ -111,6 +112,7 @@ room_made {shared} {reg} {look} {steps} {before} {u} {w} o r first last = ⊎_el
       claims = λ c other. ap (λ (z : SeatData). claim_of c z.view) same;
       seen = ap (λ (z : SeatData). z.view.seen) same;
       looked = ap (λ (z : SeatData). z.view.look) same;
+      noted = ap (λ (z : SeatData). z.noted) same;
     }
 
     scanned : u.free ≡ [] → IsScan u w → RoomMade shared reg steps look before u w
@@ -123,7 +125,7 @@ room_made {shared} {reg} {look} {steps} {before} {u} {w} o r first last = ⊎_el
           changing = record {
             calling = calling_then o.calling (scan_goes s first last reg) (s.claims HOLD (λ e. absurd (omega arith)));
             began = o.began;
-            scans = inr (omega (arith, scan_loads-append steps scan, scan_all s first last), sym (ap (λ (z : SeatData). z.free) o.same) ∙ none);
+            scans = inr (omega (arith, scan_loads-append steps scan, scan_all s first last), omega (arith, ap (λ (z : SeatData). length z.free) o.same, ap (length {A = ℕ}) none));
             walk = s.walk_none;
           };
           none_lost = scan_lost s first last;
@@ -133,6 +135,7 @@ room_made {shared} {reg} {look} {steps} {before} {u} {w} o r first last = ⊎_el
           claims = s.claims;
           seen = scan_seen s first last;
           looked = ap (λ (z : View). z.look) (scan_view s first last);
+          noted = ap (λ (z : SeatData). z.noted) s.same;
         }
 
 -- the seat stays of its object
@@ -144,13 +147,14 @@ room_ours {shared} of r = ⊎_elim
 
 -- the claim and the record found stay
 pub room_claim : {shared : ObjectData} {reg word look : ℕ} {steps : List Counted} {before u w : SeatData} → RoomMade shared reg steps look before u w
-    → HasClaim BACK reg word u.view → HasClaim BACK reg word w.view
+    → HasClaim BACK reg word u → HasClaim BACK reg word w
 room_claim {reg} {word} {u} {w} m h =
     let same : claim_of BACK w.view ≡ claim_of BACK u.view = m.claims BACK (λ e. absurd (omega arith)) in record {
       stands = subst (λ (y : Claim). On y (word / 2)) (sym same) h.stands;
       cell = ap (λ (y : Claim). y.cell) same ∙ h.cell;
       now_at = ap (λ (y : Claim). y.at) same ∙ (h.now_at ∙ ap (length {A = Entry}) (sym m.seen));
       found = m.looked ∙ (h.found ∙ ap (λ (s : List Entry). Some (look_at reg word (length s))) (sym m.seen));
+      none = λ is. m.noted ∙ h.none is;
     }
 
 -- AN ANSWER THAT CHANGES NOTHING
@@ -163,12 +167,12 @@ looked_end {now} call reply o there on right full = changing_end (length now.vie
 -- a call that only looked, and read the record that its claim stands on
 pub record Decides (shared : ObjectData) (reg word look : ℕ) (rec : List ℕ) (steps : List Counted) (before now : SeatData) : Type 0 where
   pub only : HasOnlyLooked shared reg steps look before now
-  pub claim : HasClaim BACK reg word now.view
+  pub claim : HasClaim BACK reg word now
   pub there : register_at now.view (length now.view.seen) reg ≡ rec
   pub law : IsSeat now
 
 pub decides : {shared : ObjectData} {reg word look : ℕ} {rec : List ℕ} {steps : List Counted} {before mid now : SeatData} (o : HasOnlyLooked shared reg steps look before mid)
-    → HasClaim BACK reg word mid.view → (r : HasRead (word / 2) rec mid now) → (law : IsSeat now)
+    → HasClaim BACK reg word mid → (r : HasRead (word / 2) rec mid now) → (law : IsSeat now)
     → Decides shared reg word look rec (read_steps word o r law.sound) before now
 decides {word} o claim r law = record {
   only = only_read word o r law.sound;

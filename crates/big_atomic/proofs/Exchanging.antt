@@ -1,19 +1,20 @@
--- An exchange of a register's backup: won, or lost, or tried once more where only the mark was cleared.
+-- An exchange of a cell's backup: won, or lost, or tried once more where only the mark was cleared.
 use Rattle.std.proofs.Common.{◌≡◌, ◌≢◌, ◌∙◌, ℕ, ◌/◌, ◌≤◌, Bool, not, cond, eq-eqb, List, [], ◌∷◌, ◌++◌, Some, length, drop, refl, sym, ap, subst, arith, inl}
 use Rattle.big_atomic.proofs.Claimed.{none_later}
 use Rattle.big_atomic.proofs.Goings.{found_at_look, goes_look, goes_lost, goes_none, goes_then, looks_at, moved_since, seen_on, lost_most}
 use Rattle.big_atomic.proofs.Paid.{lost-append}
 use Rattle.big_atomic.specs.Calling.{Goes, HasFound, HasLost, HasWon}
+use Rattle.big_atomic.specs.Installing.{HasNear}
 use Rattle.big_atomic.specs.Turns.{lost_steps}
 use Rattle.seat_history.specs.declared.call.Call.{Call}
 use Rattle.step_rules.proofs.Trails.{longer_seen}
 use Rattle.step_rules.specs.Claims.{BACK, On}
 use Rattle.step_rules.specs.History.{GoesOn, NoneOn}
-use Rattle.step_rules.specs.Kinds.Backup.{DropsFirst, MayExchange}
+use Rattle.step_rules.specs.Kinds.Backup.{MayExchange}
 use Rattle.step_rules.specs.SeatData.{SeatData}
 use Rattle.step_rules.specs.Sound.{Sound}
-use Rattle.step_rules.specs.Steps.{HoldsFront, Sees, Won, stepped}
-use Rattle.step_rules.specs.Views.{counted, fresh_of, look_at, looked_view}
+use Rattle.step_rules.specs.Steps.{DropsNoted, HoldsFront, Sees, Won, stepped}
+use Rattle.step_rules.specs.Views.{counted, dropped_of, fresh_of, look_at, looked_view}
 use Rattle.step_rules.specs.World.{has, nodes_of}
 use Rattle.step_rules.specs.declared.plan.Plan.{Plan}
 use Rattle.step_rules.specs.declared.view.Counted.{Counted}
@@ -46,6 +47,10 @@ may_again reg word x node call v w only near may = subst (λ (z : View). MayExch
   removes = may.removes;
 })
 
+-- the word itself was found last
+pub just_found : {reg word : ℕ} {v : View} → HasFound reg word v → HasNear reg word v
+just_found {word = word} found = record { word = word; found = found; near = refl; fell = omega arith }
+
 -- ONE EXCHANGE THAT FOUND ANOTHER WORD
 module _ {reg word node x : ℕ} {u w : SeatData} (sees : Sees (BackupExchange reg word node) reg x u w) where
   abbrev pub tried : Counted
@@ -68,10 +73,10 @@ module _ {reg word node x : ℕ} {u w : SeatData} (sees : Sees (BackupExchange r
   near_goes near first last = goes_look (Some (length u.view.seen)) (looks_at (eq-eqb reg reg refl) sees first last) (ap not (eq-eqb (x / 2) (word / 2) near))
 
   -- another one was found: the history has an entry on the cell since the last look
-  pub far_changed : HasFound reg word u.view → x / 2 ≢ word / 2 → ¬ NoneOn u.view.plan reg (drop (length u.view.seen) w.view.seen)
-  far_changed found far = moved_since sees found far
+  pub far_changed : HasNear reg word u.view → x / 2 ≢ word / 2 → ¬ NoneOn u.view.plan reg (drop (length u.view.seen) w.view.seen)
+  far_changed found far = moved_since sees found.found (λ e. far (e ∙ found.near))
 
-  pub far_goes : HasFound reg word u.view → x / 2 ≢ word / 2 → Sound u.view → Sound w.view → Goes reg (Some (length u.view.seen)) (tried ∷ []) u w
+  pub far_goes : HasNear reg word u.view → x / 2 ≢ word / 2 → Sound u.view → Sound w.view → Goes reg (Some (length u.view.seen)) (tried ∷ []) u w
   far_goes found far first last = goes_lost (looks_at (eq-eqb reg reg refl) sees first last) (far_changed found far)
 
   pub near_kept : x / 2 ≡ word / 2 → lost_steps (tried ∷ []) ≡ 0
@@ -80,13 +85,13 @@ module _ {reg word node x : ℕ} {u w : SeatData} (sees : Sees (BackupExchange r
   pub far_lost : lost_steps (tried ∷ []) ≤ 1
   far_lost = lost_most tried
 
--- the seat holds the same front, and the same node falls out
+-- the seat holds the same front, and the same nodes fall out
 pub front_again : {reg word node x : ℕ} (call : Call) {u w : SeatData} → Sees (BackupExchange reg word node) reg x u w → HoldsFront node call u → HoldsFront node call w
 front_again {node} call sees front m =
     ap (λ (z : SeatData). has z.holding m) sees.same ∙ (front m ∙ sym (ap (λ (z : View). has (nodes_of (fresh_of node call z)) m) (tried_view sees)))
 
-pub first_again : {reg word node x : ℕ} (call : Call) {u w : SeatData} → Sees (BackupExchange reg word node) reg x u w → DropsFirst call u.view → DropsFirst call w.view
-first_again call sees first = subst (λ (z : View). DropsFirst call z) (sym (tried_view sees)) first
+pub noted_again : {reg word node x : ℕ} (call : Call) {u w : SeatData} → Sees (BackupExchange reg word node) reg x u w → DropsNoted call u → DropsNoted call w
+noted_again call sees noted = ap (λ (z : View). nodes_of (drop 1 (dropped_of call z))) (tried_view sees) ∙ (noted ∙ sym (ap (λ (z : SeatData). z.noted) sees.same))
 
 -- it won at once
 pub won_first : {reg word node : ℕ} {call : Call} {u w : SeatData} → Sound u.view → Sound w.view → Won reg word node call u w → HasWon reg word node call u w
@@ -101,7 +106,8 @@ won_first {reg} {word} {u} first last won = record {
 }
 
 -- it was lost at once
-pub lost_first : {reg word node x : ℕ} {u w : SeatData} → Sound u.view → Sound w.view → HasFound reg word u.view → x / 2 ≢ word / 2 → Sees (BackupExchange reg word node) reg x u w → HasLost reg u w
+pub lost_first : {reg word node x : ℕ} {u w : SeatData} → Sound u.view → Sound w.view → HasNear reg word u.view → x / 2 ≢ word / 2 → Sees (BackupExchange reg word node) reg x u w
+    → HasLost reg word x u w
 lost_first {reg} {u} {w} first last found far sees = record {
   tries = tried sees ∷ [];
   goes = far_goes sees found far first last;
@@ -112,6 +118,8 @@ lost_first {reg} {u} {w} first last found far sees = record {
   view = tried_only sees;
   same = sees.same;
   changed = subst (λ (p : Plan). ¬ NoneOn p reg (drop (length u.view.seen) w.view.seen)) (sym (ap (λ (z : View). z.plan) (tried_view sees))) (far_changed sees found far);
+  found = tried_found sees;
+  far = far;
 }
 
 -- since a look under the seat's Back claim that finds the claim's node, the history has no entry on the cell
@@ -149,10 +157,11 @@ module _ {reg word node x : ℕ} {u m : SeatData} (first : Sound u.view) (middle
   }
 
   -- the mark can't be cleared twice, so a second loss has another node
-  second_far : {call : Call} {y : ℕ} {w : SeatData} → MayExchange reg word node call u.view → HasFound reg word u.view → y ≢ x → Sees (BackupExchange reg x node) reg y m w → y / 2 ≢ x / 2
+  second_far : {call : Call} {y : ℕ} {w : SeatData} → MayExchange reg word node call u.view → HasNear reg word u.view → y ≢ x → Sees (BackupExchange reg x node) reg y m w → y / 2 ≢ x / 2
   second_far {y = y} may found ne again same =
       let low : y ≤ x = again.looks.falls (look_at reg x (length m.view.seen)) (tried_found sees) refl (calm_now middle (may_retry may) again same) in
-      let fell : x ≤ word = sees.looks.falls (look_at reg word (length u.view.seen)) found refl (calm_now first may sees near) in
+      let fell : x ≤ found.word = sees.looks.falls (look_at reg found.word (length u.view.seen)) found.found refl (calm_now first may sees near) in
+      let before = found.fell in
       absurd (omega arith)
 
   -- an entry since the second look is one since the first
@@ -161,11 +170,11 @@ module _ {reg word node x : ℕ} {u m : SeatData} (first : Sound u.view) (middle
   earlier {w = w} again none = none_later m.view.plan reg (length u.view.seen) m.view.seen w.view.seen (longer_seen u.view.seen m.view.seen (tried_on sees)) (tried_on again)
       (subst (λ (p : Plan). NoneOn p reg (drop (length u.view.seen) w.view.seen)) (ap (λ (z : View). z.plan) (tried_view again)) none)
 
-  pub lost_second : {call : Call} {y : ℕ} {w : SeatData} → MayExchange reg word node call u.view → HasFound reg word u.view → Sound w.view → y ≢ x
-      → Sees (BackupExchange reg x node) reg y m w → HasLost reg u w
+  pub lost_second : {call : Call} {y : ℕ} {w : SeatData} → MayExchange reg word node call u.view → HasNear reg word u.view → Sound w.view → y ≢ x
+      → Sees (BackupExchange reg x node) reg y m w → HasLost reg word y u w
   lost_second {w = w} may found last ne again =
       let far = second_far may found ne again in
-      let found_again = tried_found sees in
+      let found_again = just_found (tried_found sees) in
       let twice : List Counted = tried again ∷ [] in
       let changed = far_changed again found_again far in
       let kept = near_kept sees near in
@@ -180,4 +189,6 @@ module _ {reg word node x : ℕ} {u m : SeatData} (first : Sound u.view) (middle
         view = tried_only again ∙ ap (λ (z : View). record z { seen = w.view.seen; look = w.view.look; trail = w.view.trail }) (tried_only sees);
         same = again.same ∙ ap (λ (z : SeatData). stepped w.view z) sees.same;
         changed = λ none. changed (earlier again none);
+        found = tried_found again;
+        far = λ e. far (e ∙ sym near);
       }

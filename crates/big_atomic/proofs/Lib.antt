@@ -1,9 +1,12 @@
 pub mod Answered
+pub mod Balance
 pub mod Claimed
 pub mod Counting
 pub mod Deciding
+pub mod Ending
 pub mod Exchanging
 pub mod Goings
+pub mod Installed
 pub mod Lines
 pub mod Paid
 pub mod Preparing

@@ -1,16 +1,15 @@
 -- How a free node is taken, filled and announced.
-use Rattle.std.proofs.Common.{◌≡◌, ◌∙◌, ℕ, ◌+◌, suc, true, false, eqb, eq-eqb, List, [], ◌∷◌, ◌++◌, Some, length, set, append_assoc, length-append, refl, sym, ap, subst, arith}
-use Rattle.std.proofs.lemmas.Bool.{or_left}
+use Rattle.std.proofs.Common.{◌≡◌, ◌∙◌, ℕ, ◌+◌, suc, true, List, [], ◌∷◌, ◌++◌, Some, length, set, append_assoc, length-append, refl, sym, ap, subst, arith}
 use Rattle.std.proofs.lemmas.List.{get_or-set_other, get_or-set_same}
 use Rattle.big_atomic.proofs.Goings.{goes_still}
-use Rattle.big_atomic.proofs.Paid.{AreStill, still-append, still_exchanges, still_lost}
+use Rattle.big_atomic.proofs.Paid.{AreStill, scan_loads-append, still-append, still_exchanges, still_lost}
 use Rattle.big_atomic.specs.Calling.{Goes, IsPrepared, OnlySteps}
 use Rattle.big_atomic.specs.Turns.{scan_loads}
 use Rattle.hazard_claims.specs.Claiming.{IsAnnounced}
 use Rattle.hazard_claims.specs.declared.claims.Claim.TheVariants.{Own}
+use Rattle.node_pool.proofs.Taken.{has_added, taken_held}
 use Rattle.node_pool.specs.Pool.{IsFilled, IsTaken, store_steps}
 use Rattle.seat_history.specs.declared.words.TheConstants.{WIDTH}
-use Rattle.step_rules.proofs.Sets.{has_right}
 use Rattle.step_rules.proofs.Tied.{own_held}
 use Rattle.step_rules.specs.Bags.{IsWithout}
 use Rattle.step_rules.specs.Claims.{HOLD, OWN, On}
@@ -31,24 +30,17 @@ pub record Prepares (node : ℕ) (words : List ℕ) (before taken filled now : S
   pub fills : IsFilled node words taken filled
   pub announces : IsAnnounced Own node filled now
 
-stores_still : (n j seen : ℕ) (ws : List ℕ) → AreStill (store_steps n j ws seen)
+pub stores_still : (n j seen : ℕ) (ws : List ℕ) → AreStill (store_steps n j ws seen)
 stores_still n j seen [] = refl
 stores_still n j seen (w ∷ ws) = stores_still n (suc j) seen ws
 
-stores_unscanned : (n j seen : ℕ) (ws : List ℕ) → scan_loads (store_steps n j ws seen ++ counted (ClaimStore OWN n) (n + 1) seen ∷ []) ≡ 0
+pub stores_unscanned : (n j seen : ℕ) (ws : List ℕ) → scan_loads (store_steps n j ws seen) ≡ 0
 stores_unscanned n j seen [] = refl
 stores_unscanned n j seen (w ∷ ws) = stores_unscanned n (suc j) seen ws
 
 stores_length : (n j seen : ℕ) (ws : List ℕ) → length (store_steps n j ws seen) ≡ length ws
 stores_length n j seen [] = refl
 stores_length n j seen (w ∷ ws) = ap suc (stores_length n (suc j) seen ws)
-
-has_last : (xs : List ℕ) (n : ℕ) → has (xs ++ n ∷ []) n ≡ true
-has_last xs n = has_right xs (n ∷ []) n (or_left (eqb n n) false (eq-eqb n n refl))
-
--- the taken node is held
-pub taken_held : {node : ℕ} {before taken : SeatData} → IsTaken node before taken → has taken.holding node ≡ true
-taken_held {node} {before} t = subst (λ (l : List ℕ). has l node ≡ true) (sym t.holding) (has_last before.holding node)
 
 -- it may be announced
 pub may_announce : {node : ℕ} {words : List ℕ} {before taken filled : SeatData} → IsTaken node before taken → IsFilled node words taken filled → MayClaim OWN node filled
@@ -136,15 +128,16 @@ module _ {node : ℕ} {words : List ℕ} {before taken filled now : SeatData} (p
       record {
         steps = steps;
         goes = goes first last;
-        looks = record { none_exchanged = still_exchanges steps steps_still; none_scanned = stores_unscanned node 0 at words };
+        looks = record { none_exchanged = still_exchanges steps steps_still; none_scanned = omega (arith, scan_loads-append (store_steps node 0 words at) (counted (ClaimStore OWN node) (node + 1) at ∷ []), stores_unscanned node 0 at words) };
         none_lost = still_lost steps steps_still;
         few = omega (arith, length-append (store_steps node 0 words at) (counted (ClaimStore OWN node) (node + 1) at ∷ []), stores_length node 0 at words, ap length is, length-append rec (0 ∷ []));
         free = subst (λ (l : List ℕ). IsWithout node before.free l) (sym free) p.takes.free;
         holding = held;
-        own = own_held node (nodes_of now.view.own) now.free now.holding (last.lists node) (subst (λ (l : List ℕ). has l node ≡ true) (sym held) (has_last before.holding node));
+        own = own_held node (nodes_of now.view.own) now.free now.holding (last.lists node) (subst (λ (l : List ℕ). has l node ≡ true) (sym held) (has_added before.holding node));
         words = ap (λ (o : List Held). words_in o node) own_stays ∙ (p.fills.words_there ∙ is);
         mine = subst (λ (y : Claim). On y node) (sym own) (record { on = refl; at = refl });
         others = λ c other. ap (λ (z : View). claim_of c z) whole_view ∙ get_or-set_other before.view.claims OWN c (standing node (words_in filled.view.own node) 0 [] 0) (silent 0) other;
         seen = ap (λ (z : View). z.seen) whole_view;
         look = ap (λ (z : View). z.look) whole_view;
+        noted = ap (λ (z : SeatData). z.noted) p.announces ∙ (ap (λ (z : SeatData). z.noted) p.fills.same ∙ ap (λ (z : SeatData). z.noted) p.takes.same);
       }

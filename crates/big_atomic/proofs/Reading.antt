@@ -7,6 +7,7 @@ use Rattle.std.proofs.Math.Seq.{take-append_seam}
 use mathlib.Core.Option.{some}
 use lib.ListN.{get_elem?}
 use Rattle.big_atomic.proofs.Answered.{HasEnded, MayEnd, answered_now, ended_back, ended_none, goes_of, held_then, hold_stays, of_then, ready_after, ready_now, right_at}
+use Rattle.big_atomic.proofs.Balance.{nodes_stay}
 use Rattle.big_atomic.proofs.Claimed.{read_goes}
 use Rattle.big_atomic.proofs.Goings.{goes_still, held_stays}
 use Rattle.big_atomic.proofs.Paid.{exchanges-append, scan_loads-append, still_exchanges}
@@ -30,7 +31,7 @@ use Rattle.step_rules.specs.Layout.{nodes}
 use Rattle.step_rules.specs.Lawful.{IsRight, held_by}
 use Rattle.step_rules.specs.SeatData.{IsHolding, IsSeat, ObjectData, SeatData, holds_record}
 use Rattle.step_rules.specs.Sound.{Sound}
-use Rattle.step_rules.specs.Steps.{HasLooked, MayAnswer, stepped}
+use Rattle.step_rules.specs.Steps.{HasLooked, MayAnswer, stepped, unnoted}
 use Rattle.step_rules.specs.Stood.{StoodStill}
 use Rattle.step_rules.specs.Views.{claim_of, cleared_view, counted, number, reading, silent, stock, stood_view}
 use Rattle.step_rules.specs.declared.layout.TheConstants.{NODE_WIDTH}
@@ -61,7 +62,7 @@ module _ {c reg word : ℕ} {rec : List ℕ} {before now : SeatData} (r : HasRea
   abbrev seen : HasSeen c reg word before now
   seen = r.claimed.0.0
 
-  abbrev claim : HasClaim c reg word now.view
+  abbrev claim : HasClaim c reg word now
   claim = r.claimed.0.1
 
   goes : Goes reg None seen.steps before now
@@ -99,7 +100,8 @@ module _ {c reg word : ℕ} {rec : List ℕ} {before now : SeatData} (r : HasRea
   hold_ends = ends (Hold reg) Done there_now (λ p. refl) (right_at now.view end (Hold reg) Done (omega arith) refl refl) (λ need free e. absurd cc)
 
   -- neither nodes nor exchanges nor scans
-  quiet : {mid : View} {clear : List Counted} (call : Call) (reply : Reply) (after : SeatData) → HasEnded now mid clear → after ≡ stepped (stood_view end call reply mid) now
+  quiet : {mid : View} {clear : List Counted} {links : List ℕ} (call : Call) (reply : Reply) (after : SeatData) → HasEnded now mid clear
+      → after ≡ record (stepped (stood_view end call reply mid) now) { noted = links }
       → IsQuiet (seen.steps ++ clear) before after
   quiet {mid = mid} {clear = clear} call reply after e is = record {
     free = ap (λ (z : SeatData). z.free) is ∙ ap (λ (z : SeatData). z.free) seen.stays.same;
@@ -109,7 +111,7 @@ module _ {c reg word : ℕ} {rec : List ℕ} {before now : SeatData} (r : HasRea
   }
 
   abbrev LoadStood : SeatData → Type 0
-  LoadStood after = after ≡ stepped (stood_view end (Load reg) (Words rec) (cleared_view BACK now.view)) now
+  LoadStood after = after ≡ stepped (stood_view end (Load reg) (Words rec) (cleared_view BACK now.view)) (unnoted BACK now)
 
   load_hold : c ≡ BACK → (after : SeatData) → LoadStood after → HoldStays before after
   load_hold back after is = hold_stays after load_ends (ended_back now goes.sound) is (seen.stays.others HOLD (λ e. absurd (omega arith))) (λ contents held. refl)
@@ -120,6 +122,7 @@ module _ {c reg word : ℕ} {rec : List ℕ} {before now : SeatData} (r : HasRea
       let a = answered_now after load_ends e is last in
       record {
         answered = a.answered;
+        nodes = nodes_stay (λ rs. (refl, refl)) a.answered;
         there = ap (λ (s : Stand). register_at after.view s.place reg) a.stand_is ∙ (ap (λ (z : SeatData). register_at z.view end reg) is ∙ r.claimed.1);
         quiet = subst (λ (l : List Counted). IsQuiet l before after) (sym a.steps_are) (quiet (Load reg) (Words rec) after e is);
         hold = load_hold back after is;
@@ -160,6 +163,7 @@ module _ {c reg word : ℕ} {rec : List ℕ} {before now : SeatData} (r : HasRea
       let a = answered_now after hold_ends e is last in
       record {
         answered = a.answered;
+        nodes = nodes_stay (λ rs. (refl, refl)) a.answered;
         holds = subst (λ (s : Stand). IsHolding (register_at after.view s.place reg) after.view) (sym a.stand_is) (holding one after is);
         quiet = subst (λ (l : List Counted). IsQuiet l before after) (sym a.steps_are) (quiet (Hold reg) Done after e is);
       }

@@ -1,6 +1,7 @@
 -- How a compare-and-swap is answered No.
 use Rattle.std.proofs.Common.{◌≡◌, ◌∙◌, ℕ, ◌+◌, ◌-◌, ◌*◌, ◌<◌, ◌≤◌, Bool, true, false, not, ◌&&◌, cond, List, [], ◌∷◌, ◌++◌, length, drop, refl, sym, ap, subst, arith, inl, inr, ⊎_elim}
 use Rattle.std.proofs.lemmas.Bool.{false≢true}
+use Rattle.big_atomic.proofs.Balance.{nodes_stay}
 use Rattle.big_atomic.proofs.Answered.{MayEnd, may_answer, right_at, EndsAs, clear_step, ended_as}
 use Rattle.big_atomic.proofs.Paid.{exchanges-append, scan_loads-append, costs_then}
 use Rattle.big_atomic.proofs.Unlike.{IsFirst, first_is, unlike_at}
@@ -78,7 +79,7 @@ module _ {shared : ObjectData} {reg : ℕ} {old : List ℕ} {steps : List Counte
   may_refuse = may_answer end
 
   pub refused : {final : SeatData} → EndsAs place (Swap reg old new) No now final → IsSeat final → Costs 1 2 (3 * NODE_WIDTH + 4 * before.view.plan.seats + 15) steps
-      → (old ≡ new → exchanges steps ≡ 0) → ScansForWant No steps before → IsSwapped reg old new SwapNo before final × IsReady shared final
+      → (old ≡ new → exchanges steps ≡ 0) → ScansForWant 1 No steps before → IsSwapped reg old new SwapNo before final × IsReady shared final
   refused {final} is law costs spared fits =
       let e = ended_as r.changing.began end is law r.changing.calling.hold r.changing.walk r.own (λ c held. refl) in
       let a = e.has in
@@ -90,8 +91,9 @@ module _ {shared : ObjectData} {reg : ℕ} {old : List ℕ} {steps : List Counte
       ap (λ (s : Stand). register_at final.view s.place reg) a.stand_is ∙ ap (λ (l : List Entry). (state_at l place).registers reg) seen in (
         record {
           answered = a.answered;
+          nodes = nodes_stay (λ rs. (refl, refl)) a.answered;
           hold = e.hold;
-          scans = subst (λ (l : List Counted). ScansForWant No l before) (sym a.steps_are) (⊎_elim
+          scans = subst (λ (l : List Counted). ScansForWant 1 No l before) (sym a.steps_are) (⊎_elim
               (λ e. inl (omega (arith, scan_loads-append steps clear)))
               (λ e. let all = e.0 in inr (omega (arith, scan_loads-append steps clear), e.1, ⊎_elim (λ f. inl f) (λ t. inr (omega (arith, exchanges-append steps clear))) e.2))
               fits);

@@ -1,6 +1,6 @@
 -- A scan in the middle of a call, whose Back claim stands.
 use Rattle.std.proofs.Common.{◌≡◌, ◌≢◌, ◌∙◌, ℕ, ◌+◌, ◌*◌, ◌≤◌, suc, zero, true, not, ◌&&◌, cond, List, [], ◌∷◌, ◌++◌, Some}
-use Rattle.std.proofs.Common.{length, filter, length-append, refl, sym, ap, subst, arith, ◌⊎◌, inl, inr, ⊎_elim}
+use Rattle.std.proofs.Common.{length, filter, append_assoc, append-nil, length-append, refl, sym, ap, subst, arith, ◌⊎◌, inl, inr, ⊎_elim}
 use Rattle.std.proofs.lemmas.List.Filters.{length-filter_both}
 use Rattle.big_atomic.proofs.Goings.{goes_still}
 use Rattle.big_atomic.proofs.Paid.{AreStill, all_still, scan_loads-append, still, still-append, still_exchanges, still_lost}
@@ -11,9 +11,10 @@ use Rattle.step_rules.specs.Claims.{BACK, HOLD, OWN, On, WALK}
 use Rattle.step_rules.specs.Layout.{claim_at}
 use Rattle.step_rules.specs.Lawful.{held_by}
 use Rattle.step_rules.specs.SeatData.{IsHolding, IsSeat, SeatData}
-use Rattle.step_rules.specs.Steps.{FindsOwnWords, found_at, kinds_of, scan_kinds, stood_at}
+use Rattle.step_rules.specs.Steps.{FindsOwnWords, HasScanned, found_at, kinds_of, scan_kinds, stood_at}
 use Rattle.step_rules.specs.Views.{claim_of, counted, number, stock}
 use Rattle.step_rules.specs.declared.layout.TheConstants.{CLAIMS}
+use Rattle.step_rules.specs.declared.plan.Plan.{Plan}
 use Rattle.step_rules.specs.declared.view.Claim.{Claim}
 use Rattle.step_rules.specs.declared.view.Counted.{Counted}
 use Rattle.step_rules.specs.declared.view.Kind.{Kind}
@@ -95,6 +96,17 @@ module _ {u w : SeatData} (s : IsScan u w) (first : IsSeat u) (last : IsSeat w) 
           let a = first.long in
           let b = last.long in
           omega (arith, ap length s.free, ap length s.retired, length-append u.free (filter (λ (n : ℕ). not (names n s.loads)) u.view.retired), ap (λ (z : SeatData). length z.holding) s.same)
+
+  -- it is a whole one, after these steps
+  abbrev pub scanned_now : (a : List Counted) → FindsOwnWords w.view s.loads → HasScanned w.view (a ++ steps)
+  scanned_now a words = record {
+    front = a ++ s.clear;
+    loads = s.loads;
+    back = [];
+    whole = sym (append_assoc a s.clear s.loads) ∙ ap (λ (l : List Counted). (a ++ s.clear) ++ l) (sym (append-nil s.loads));
+    kinds = s.kinds ∙ ap (λ (p : Plan). scan_kinds 0 (CLAIMS * p.seats)) (sym (ap (λ (z : View). z.plan) scan_view));
+    own_words = words;
+  }
 
   word_found : (c : ℕ) → c ≢ WALK → suc c ≤ CLAIMS → found_at (claim_at (number w.view) c) s.loads ≡ (claim_of c u.view).word
   word_found c other low = ap (λ (z : View). found_at (claim_at (number z) c) s.loads) scan_view ∙ (s.own_words c low ∙ ap (λ (y : Claim). y.word) (s.claims c other))

@@ -5,8 +5,8 @@ use Rattle.std.proofs.lemmas.Bool.{and_right, cases_Bool}
 use Rattle.big_atomic.proofs.Answered.{MayEnd, ended_back, held_then, right_at, scanned_since, EndsAs, ended_as}
 use Rattle.big_atomic.proofs.Goings.{calling_then, held_stays}
 use Rattle.big_atomic.proofs.Paid.{scan_loads-append, costs_then}
-use Rattle.big_atomic.proofs.Scanning.{holding_stays, own_words, own_words_later, scan_all, scan_few, scan_goes, scan_lost, scan_seen, scan_tried, scan_view}
-use Rattle.big_atomic.specs.Calling.{Calling, Costs, HasOnlyLooked, HasRoom}
+use Rattle.big_atomic.proofs.Scanning.{holding_stays, own_words, own_words_later, scan_all, scan_few, scan_goes, scan_lost, scan_seen, scan_tried, scan_view, scanned_now}
+use Rattle.big_atomic.specs.Calling.{Calling, Costs, Goes, HasOnlyLooked, HasRoom}
 use Rattle.big_atomic.specs.Calls.{Answered, HoldStays, IsFullAnswer, ScansForWant}
 use Rattle.big_atomic.specs.Ready.{IsReady}
 use Rattle.big_atomic.specs.Turns.{scan_loads}
@@ -24,6 +24,7 @@ use Rattle.step_rules.specs.History.{IsThere, cell_of}
 use Rattle.step_rules.specs.Lawful.{IsRight, held_by}
 use Rattle.step_rules.specs.Records.{need_in}
 use Rattle.step_rules.specs.SeatData.{IsHolding, IsSeat, ObjectData, SeatData, holds_record}
+use Rattle.step_rules.specs.Sound.{Sound}
 use Rattle.step_rules.specs.Steps.{FindsOwnWords, HasScanned, scan_kinds}
 use Rattle.step_rules.specs.Views.{claim_of, cleared_view, counted, number, reading, stock, stood_view}
 use Rattle.step_rules.specs.declared.layout.TheConstants.{CLAIMS}
@@ -77,10 +78,18 @@ pub record ShortAnswer (shared : ObjectData) (reg look : ℕ) (call : Call) (ste
   pub answered : Answered reg call (Full 1 0) before final
   pub steps_are : answered.steps ≡ steps
   pub hold : HoldStays before final
-  pub scans : ScansForWant (Full 1 0) answered.steps before
+  pub scans : ScansForWant 1 (Full 1 0) answered.steps before
   pub full : (need free : ℕ) → need ≡ 1 → free ≡ 0 → IsFullAnswer need free answered.steps before final
   pub short : stock before.view ≤ 4 * before.view.plan.seats
   pub ready : IsReady shared final
+
+-- the Hold word of a call in progress
+pub hold_word : {shared : ObjectData} {cell : ℕ} {found : Option ℕ} {steps : List Counted} {before now : SeatData} → IsReady shared before → Sound before.view → Goes cell found steps before now
+    → claim_of HOLD now.view ≡ claim_of HOLD before.view → ((claim_of HOLD now.view).word ≡ 0) ⊎ ((held : List ℕ) × IsHolding held now.view)
+hold_word {before = before} {now = now} ready sound goes hold = ⊎_elim
+    (λ one. let h = ready.held one in inr (h.0, holding_stays h.0 before.view now.view (held_stays sound goes) hold h.1))
+    (λ none. inl (ap (λ (y : Claim). y.word) hold ∙ ready.hold none))
+    (cases_Bool (holds_record before.view))
 
 module _ {shared : ObjectData} {reg : ℕ} {call : Call} {steps : List Counted} {look : ℕ} {before looked now : SeatData} (s : IsShort shared reg call steps look before looked now) where
   abbrev scan_steps : List Counted
@@ -92,28 +101,14 @@ module _ {shared : ObjectData} {reg : ℕ} {call : Call} {steps : List Counted} 
   pub calling : Calling reg (steps ++ scan_steps) look before now
   calling = calling_then s.past.calling (scan_goes s.scan s.law_looked s.law reg) (s.scan.claims HOLD (λ e. absurd (omega arith)))
 
-  -- the seat's Hold word
-  hold_word : ((claim_of HOLD looked.view).word ≡ 0) ⊎ ((held : List ℕ) × IsHolding held looked.view)
-  hold_word = ⊎_elim
-      (λ one. let h = s.past.began.ready.held one in inr (h.0, holding_stays h.0 before.view looked.view (held_stays s.past.began.law.sound s.past.calling.goes) s.past.calling.hold h.1))
-      (λ none. inl (ap (λ (y : Claim). y.word) s.past.calling.hold ∙ s.past.began.ready.hold none))
-      (cases_Bool (holds_record before.view))
-
   words : FindsOwnWords now.view s.scan.loads
-  words = own_words s.scan s.law_looked s.law s.stands s.past.own hold_word
+  words = own_words s.scan s.law_looked s.law s.stands s.past.own (hold_word s.past.began.ready s.past.began.law.sound s.past.calling.goes s.past.calling.hold)
 
   plan_same : now.view.plan ≡ looked.view.plan
   plan_same = ap (λ (z : View). z.plan) (scan_view s.scan s.law_looked s.law)
 
   has_scanned : HasScanned now.view (steps ++ scan_steps)
-  has_scanned = record {
-    front = steps ++ s.scan.clear;
-    loads = s.scan.loads;
-    back = [];
-    whole = sym (append_assoc steps s.scan.clear s.scan.loads) ∙ ap (λ (l : List Counted). (steps ++ s.scan.clear) ++ l) (sym (append-nil s.scan.loads));
-    kinds = s.scan.kinds ∙ ap (λ (p : Plan). scan_kinds 0 (CLAIMS * p.seats)) (sym plan_same);
-    own_words = words;
-  }
+  has_scanned = scanned_now s.scan s.law_looked s.law steps words
 
   idle_now : now.holding ≡ []
   idle_now = ap (λ (z : SeatData). z.holding) s.scan.same ∙ (ap (λ (z : SeatData). z.holding) s.past.same ∙ s.past.began.ready.idle)
@@ -214,7 +209,7 @@ module _ {shared : ObjectData} {reg : ℕ} {call : Call} {steps : List Counted} 
         hold = e.hold;
         scans = inr (
           ap scan_loads a.steps_are ∙ omega (arith, scan_loads-append (steps ++ scan_steps) clear, scan_loads-append steps scan_steps, scan_all s.scan s.law_looked s.law),
-          sym (ap (λ (z : SeatData). z.free) s.past.same) ∙ s.none_before,
+          omega (arith, ap (λ (z : SeatData). length z.free) s.past.same, ap (length {A = ℕ}) s.none_before),
           inl refl,
         );
         full = λ need free one zero. subst (λ (l : List Counted). IsFullAnswer need free l before final) (sym a.steps_are) (short_full one zero is);

@@ -1,5 +1,6 @@
 -- The answers of a store that tries no exchange.
 use Rattle.std.proofs.Common.{◌≡◌, ◌∙◌, ℕ, Bool, true, false, not, ◌&&◌, List, [], ◌∷◌, ◌++◌, length, refl, sym, ap, arith, inl}
+use Rattle.big_atomic.proofs.Balance.{nodes_stay}
 use Rattle.big_atomic.proofs.Answered.{MayEnd, right_at, EndsAs, clear_step, ended_as}
 use Rattle.big_atomic.proofs.Deciding.{Decides, looked_end, room_claim, room_made, seen_only}
 use Rattle.big_atomic.proofs.Paid.{scan_loads-append}
@@ -54,6 +55,7 @@ module _ {shared : ObjectData} {reg word : ℕ} {rec : List ℕ} {before now : S
       let none = o.looks.none_scanned in (
         record {
           answered = e.has.answered;
+          nodes = nodes_stay (λ rs. (refl, refl)) e.has.answered;
           hold = e.hold;
           scans = inl (ap scan_loads e.has.steps_are ∙ omega (arith, scan_loads-append first_steps (clear_step now ∷ [])));
           full = λ need free e. absurd cc;
@@ -75,6 +77,7 @@ module _ {shared : ObjectData} {reg word : ℕ} {rec : List ℕ} {before now : S
       let few = a.short in (
         record {
           answered = a.answered;
+          nodes = nodes_stay (λ rs. (refl, refl)) a.answered;
           hold = a.hold;
           scans = a.scans;
           full = λ need free e. a.full need free (let q : 1 ≡ need = cc in sym q) (let q : 0 ≡ free = cc in sym q);

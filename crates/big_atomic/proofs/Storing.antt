@@ -1,15 +1,14 @@
 -- How a store comes to its answer once it tries exchanges.
-use Rattle.std.proofs.Common.{◌≡◌, ◌∙◌, ℕ, ◌<◌, suc, zero, Bool, true, false, not, ◌&&◌, List, [], ◌∷◌, ◌++◌, None, Some, length, set, refl, sym, ap, subst, arith}
-use Rattle.std.proofs.lemmas.Bool.{false≢true}
-use mathlib.Core.Option.{some, some-injective}
-use lib.ListN.{get_elem?}
+use Rattle.std.proofs.Common.{◌≡◌, ◌∙◌, ℕ, ◌<◌, Bool, true, false, not, ◌&&◌, List, [], ◌∷◌, ◌++◌, None, Some, length, refl, sym, ap, subst, arith}
 use Rattle.big_atomic.proofs.Answered.{MayEnd, goes_of, right_at, EndsAs, clear_step, ended_as}
+use Rattle.big_atomic.proofs.Balance.{nodes_stay}
 use Rattle.big_atomic.proofs.Claimed.{lost_longer}
+use Rattle.big_atomic.proofs.Ending.{EndsClaims}
 use Rattle.big_atomic.proofs.Goings.{goes_then}
 use Rattle.big_atomic.proofs.Paid.{exchanges-append, scan_loads-append}
 use Rattle.big_atomic.proofs.Swapping.{PutsDown, put_goes, put_holding, put_others, put_own, put_step, put_view}
-use Rattle.big_atomic.proofs.Trying.{Trying, changing_then, gives_store, scans_fit, won_call, changing_end}
-use Rattle.big_atomic.proofs.Winning.{all_steps, answered_won, won_ready, won_scanned, won_stays, won_tried, EndsClaims}
+use Rattle.big_atomic.proofs.Trying.{Trying, changing_then, scans_fit, store_replies, won_call, won_idle, changing_end}
+use Rattle.big_atomic.proofs.Winning.{all_steps, answered_won, won_reply, won_scanned, won_stays, won_tried}
 use Rattle.big_atomic.specs.Calling.{Goes, HasClaimedRecord, HasLost, HasTurnedOver, HasWon, IsChanging, IsWorking}
 use Rattle.big_atomic.specs.Calls.{IsStored, ScansForWant, register_at}
 use Rattle.big_atomic.specs.Ready.{IsReady}
@@ -25,23 +24,14 @@ use Rattle.step_rules.proofs.Trails.{longer_seen}
 use Rattle.step_rules.specs.Claims.{BACK, HOLD, OWN, On, WALK}
 use Rattle.step_rules.specs.SeatData.{IsOf, IsSeat, ObjectData, SeatData}
 use Rattle.step_rules.specs.Steps.{stepped}
-use Rattle.step_rules.specs.Views.{claim_of, cleared_view, silent, words_in}
+use Rattle.step_rules.specs.Views.{claim_of, cleared_view, words_in}
 use Rattle.step_rules.specs.World.{has, nodes_of}
 use Rattle.step_rules.specs.declared.view.Claim.{Claim}
 use Rattle.step_rules.specs.declared.view.Counted.{Counted}
 use Rattle.step_rules.specs.declared.view.Held.{Held}
 use Rattle.step_rules.specs.declared.view.View.{View}
 
--- no claim stands in a word that was cleared
-pub own_silent : (l : List Claim) (c : ℕ) (y : Claim) → get_elem? (set l c (silent 0)) c ≡ some y → y.stands ≡ true → ⊥
-own_silent [] c y at on = absurd cc
-own_silent (x ∷ l) zero y at on = false≢true (ap (λ (z : Claim). z.stands) (some-injective (silent 0) y at) ∙ on)
-own_silent (x ∷ l) (suc c) y at on = own_silent l c y at on
-
 -- the seat stays of its object
-pub cleared_ours : {shared : ObjectData} {u cleared : SeatData} → cleared ≡ stepped (cleared_view OWN u.view) u → IsOf shared u → IsOf shared cleared
-cleared_ours is of = record { object = ap (λ (z : SeatData). z.object) is ∙ of.object; plan = ap (λ (z : SeatData). z.view.plan) is ∙ of.plan }
-
 pub put_ours : {shared : ObjectData} {node : ℕ} {u put : SeatData} → IsPutBack node u put → IsOf shared u → IsOf shared put
 put_ours back of = record { object = ap (λ (z : SeatData). z.object) back.same ∙ of.object; plan = ap (λ (z : SeatData). z.view.plan) back.same ∙ of.plan }
 
@@ -49,32 +39,32 @@ put_ours back of = record { object = ap (λ (z : SeatData). z.object) back.same 
 pub store_won : {shared : ObjectData} {reg word node look : ℕ} {rec new : List ℕ} {steps : List Counted} {before now after final : SeatData}
     → Trying shared reg word node rec new steps look before now → HasWon reg word node (Store reg new) now after → EndsClaims after final → IsSeat final
     → IsStored reg new StoreDone before final × IsReady shared final
-store_won {shared} {reg} {new} {steps} {before} {now} t won ended last =
-    let w = won_call Done t won ended last in
-    let g = gives_store reg new (register_at now.view (claim_of BACK now.view).at reg) in
-    let a = answered_won w g in (
+store_won {reg} {new} {steps} {before} t won ended last =
+    let w = won_call t won ended last refl (λ c held. refl) refl in
+    let a = answered_won w (won_reply w (store_replies reg new)) in (
       record {
         answered = a.0;
-        hold = won_stays w g;
-        scans = subst (λ (l : List Counted). ScansForWant Done l before) (sym a.1) (scans_fit Done steps (all_steps w g) before t.changing.scans (won_scanned w g) (won_tried w g));
+        nodes = nodes_stay (λ rs. (refl, refl)) a.0;
+        hold = won_stays w;
+        scans = subst (λ (l : List Counted). ScansForWant 1 Done l before) (sym a.1) (scans_fit Done steps (all_steps w) before t.changing.scans (won_scanned w) (won_tried w));
         full = λ need free e. absurd cc;
         enough = λ many. refl;
       },
-      won_ready w g shared t.changing.began.ready t.changing.walk,
+      won_idle t ended w,
     )
 
 -- THE EXCHANGE WAS LOST, and the node that is there then was claimed
-pub record LostTurn (shared : ObjectData) (reg word node next : ℕ) (there rec new : List ℕ) (now lost again : SeatData) : Type 0 where
+pub record LostTurn (shared : ObjectData) (reg word other node next : ℕ) (there rec new : List ℕ) (now lost again : SeatData) : Type 0 where
   pub working : IsWorking shared reg word node there new now
-  pub loses : HasLost reg now lost
+  pub loses : HasLost reg word other now lost
   pub claimed : HasClaimedRecord BACK reg next rec lost again
   pub law : IsSeat again
 
-pub lost_turn : {shared : ObjectData} {reg word node next : ℕ} {there rec new : List ℕ} {now lost again : SeatData} → IsWorking shared reg word node there new now → HasLost reg now lost
-    → HasClaimedRecord BACK reg next rec lost again → IsSeat again → LostTurn shared reg word node next there rec new now lost again
+pub lost_turn : {shared : ObjectData} {reg word other node next : ℕ} {there rec new : List ℕ} {now lost again : SeatData} → IsWorking shared reg word node there new now
+    → HasLost reg word other now lost → HasClaimedRecord BACK reg next rec lost again → IsSeat again → LostTurn shared reg word other node next there rec new now lost again
 lost_turn working loses claimed law = record { working = working; loses = loses; claimed = claimed; law = law }
 
-module _ {shared : ObjectData} {reg word node next : ℕ} {there rec new : List ℕ} {now lost again : SeatData} (t : LostTurn shared reg word node next there rec new now lost again) where
+module _ {shared : ObjectData} {reg word other node next : ℕ} {there rec new : List ℕ} {now lost again : SeatData} (t : LostTurn shared reg word other node next there rec new now lost again) where
   abbrev pub turn_steps : List Counted
   turn_steps = t.loses.tries ++ t.claimed.0.0.steps
 
@@ -107,7 +97,7 @@ module _ {shared : ObjectData} {reg word node next : ℕ} {there rec new : List 
 
   -- to another record
   pub turned_other : is_same rec new ≡ false → HasTurnedOver shared reg node new (Some next) now again
-  turned_other other =
+  turned_other differs =
       let left = t.working.left in
       let claim = t.claimed.0.1 in (
         turn_steps,
@@ -123,12 +113,13 @@ module _ {shared : ObjectData} {reg word node next : ℕ} {there rec new : List 
             stands = claim.stands;
             cell = claim.cell;
             record_is = ap (λ (n : ℕ). register_at again.view n reg) claim.now_at ∙ t.claimed.1;
-            other = other;
+            other = differs;
             found = claim.found;
             holding = turn_holding;
             own = subst (λ (o : List Held). has (nodes_of o) node ≡ true) (sym turn_own) t.working.own;
             words = ap (λ (o : List Held). words_in o node) turn_own ∙ t.working.words;
             mine = subst (λ (y : Claim). On y node) (sym (turn_claims OWN (λ e. absurd (omega arith)))) t.working.mine;
+            none = claim.none refl;
             left = omega (arith, ap (λ (z : View). z.changes) turn_goes.only);
             sound = t.law.sound;
           },
@@ -170,8 +161,9 @@ module _ {shared : ObjectData} {reg word node next : ℕ} {there rec new : List 
           omega (arith, exchanges-append done_steps (clear_step put ∷ []), exchanges-append (steps ++ turn_steps) (put_step p), exchanges-append steps turn_steps) in (
             record {
               answered = e.has.answered;
+              nodes = nodes_stay (λ rs. (refl, refl)) e.has.answered;
               hold = e.hold;
-              scans = subst (λ (l : List Counted). ScansForWant Done l before) (sym e.has.steps_are) (scans_fit Done steps all before c.scans both some_tried);
+              scans = subst (λ (l : List Counted). ScansForWant 1 Done l before) (sym e.has.steps_are) (scans_fit Done steps all before c.scans both some_tried);
               full = λ need free e. absurd cc;
               enough = λ many. refl;
             },

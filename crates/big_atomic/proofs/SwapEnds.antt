@@ -1,5 +1,6 @@
 -- The answers of a compare-and-swap that tries no exchange.
 use Rattle.std.proofs.Common.{◌≡◌, ◌∙◌, ℕ, ◌+◌, ◌<◌, Bool, true, false, not, ◌&&◌, cond, List, [], ◌∷◌, ◌++◌, None, length, drop, refl, sym, ap, subst, arith, inl}
+use Rattle.big_atomic.proofs.Balance.{nodes_stay}
 use Rattle.big_atomic.proofs.Answered.{MayEnd, right_at, EndsAs, clear_step, ended_as}
 use Rattle.big_atomic.proofs.Deciding.{Decides, changing_of, idle_still, looked_back, looked_end, seen_only}
 use Rattle.big_atomic.proofs.Paid.{exchanges-append, scan_loads-append, costs_then, costs_within}
@@ -47,6 +48,7 @@ module _ {shared : ObjectData} {reg look : ℕ} {old : List ℕ} {steps : List C
       subst (λ (l : List Counted). SwapCosts before l) (sym a.steps_are) (costs_within all (omega arith) (omega arith) (omega arith)) in (
         record {
           answered = a.answered;
+          nodes = nodes_stay (λ rs. (refl, refl)) a.answered;
           hold = e.hold;
           scans = inl (ap scan_loads a.steps_are ∙ omega (arith, scan_loads-append steps clear));
           no = λ e. absurd cc;
@@ -80,6 +82,7 @@ swap_full {before} s is law costs =
     let short = a.short in (
       record {
         answered = a.answered;
+        nodes = nodes_stay (λ rs. (refl, refl)) a.answered;
         hold = a.hold;
         scans = a.scans;
         no = λ e. absurd cc;

@@ -1,22 +1,23 @@
 -- How a compare-and-swap comes to its answer.
 use Rattle.std.proofs.Common.{◌≡◌, ◌∙◌, ℕ, ◌+◌, ◌*◌, ◌<◌, List, [], ◌∷◌, ◌++◌, Some, length, drop, length-append, refl, sym, ap, subst, arith}
 use Rattle.std.proofs.lemmas.List.{get_or-set_other, nil_from_length}
+use Rattle.big_atomic.proofs.Balance.{nodes_stay}
+use Rattle.big_atomic.proofs.Ending.{EndsClaims, cleared_word}
 use Rattle.big_atomic.proofs.Goings.{goes_still}
 use Rattle.big_atomic.proofs.Paid.{exchanges-append, lost-append, scan_loads-append, costs_within}
 use Rattle.big_atomic.proofs.Refusing.{IsUnlike, MayRefuse, unlike_since, SwapCosts}
-use Rattle.big_atomic.proofs.Trying.{Trying, changing_then, gives_swap, scans_fit, won_call}
-use Rattle.big_atomic.proofs.Winning.{all_steps, answered_won, exchanges_most, won_costs, won_ready, won_scanned, won_stays, won_tried, cleared_word, EndsClaims}
+use Rattle.big_atomic.proofs.Trying.{Trying, changing_then, scans_fit, swap_replies, won_call, won_idle}
+use Rattle.big_atomic.proofs.Winning.{all_steps, answered_won, exchanges_most, won_costs, won_reply, won_scanned, won_stays, won_tried}
 use Rattle.big_atomic.specs.Calling.{Costs, Goes, HasLost, HasWon, IsChanging, OnlySteps}
-use Rattle.big_atomic.specs.Calls.{IsSwapped, ScansForWant, register_at}
+use Rattle.big_atomic.specs.Calls.{IsSwapped, ScansForWant}
 use Rattle.big_atomic.specs.Ready.{IsReady}
 use Rattle.big_atomic.specs.declared.answers.Swap.TheVariants.{Yes as SwapYes}
 use Rattle.node_pool.specs.Pool.{IsPutBack}
-use Rattle.seat_history.specs.Step.{is_same}
 use Rattle.seat_history.specs.declared.call.Call.TheVariants.{Swap}
 use Rattle.seat_history.specs.declared.entry.Entry.{Entry}
 use Rattle.seat_history.specs.declared.reply.Reply.TheVariants.{Yes, No}
 use Rattle.seat_history.specs.declared.words.TheConstants.{WIDTH}
-use Rattle.step_rules.specs.Claims.{BACK, HOLD, OWN, WALK}
+use Rattle.step_rules.specs.Claims.{HOLD, OWN, WALK}
 use Rattle.step_rules.specs.History.{NoneOn}
 use Rattle.step_rules.specs.SeatData.{IsSeat, ObjectData, SeatData}
 use Rattle.step_rules.specs.Steps.{stepped}
@@ -57,13 +58,13 @@ module _ {node : ℕ} {u cleared now : SeatData} (p : PutsDown node u cleared no
   put_others c other = ap (λ (z : View). claim_of c z) put_view ∙ get_or-set_other u.view.claims OWN c (silent 0) (silent 0) other
 
 -- THE EXCHANGE WAS LOST
-pub lost_down : {shared : ObjectData} {reg word node look : ℕ} {rec new : List ℕ} {steps : List Counted} {before now lost cleared put : SeatData}
-    → Trying shared reg word node rec new steps look before now → HasLost reg now lost → cleared ≡ stepped (cleared_view OWN lost.view) lost → IsPutBack node cleared put → IsSeat put
+pub lost_down : {shared : ObjectData} {reg word other node look : ℕ} {rec new : List ℕ} {steps : List Counted} {before now lost cleared put : SeatData}
+    → Trying shared reg word node rec new steps look before now → HasLost reg word other now lost → cleared ≡ stepped (cleared_view OWN lost.view) lost → IsPutBack node cleared put → IsSeat put
     → PutsDown node lost cleared put
 lost_down t l ends back law = record { ends = ends; back = back; held = ap (λ (z : SeatData). z.holding) l.same ∙ t.working.holding; law = law }
 
-module _ {shared : ObjectData} {reg word node look : ℕ} {rec new : List ℕ} {steps : List Counted} {before now lost cleared put : SeatData}
-    (t : Trying shared reg word node rec new steps look before now) (l : HasLost reg now lost) (p : PutsDown node lost cleared put) where
+module _ {shared : ObjectData} {reg word other node look : ℕ} {rec new : List ℕ} {steps : List Counted} {before now lost cleared put : SeatData}
+    (t : Trying shared reg word node rec new steps look before now) (l : HasLost reg word other now lost) (p : PutsDown node lost cleared put) where
   abbrev pub lost_all : List Counted
   lost_all = (steps ++ l.tries) ++ put_step p
 
@@ -87,7 +88,7 @@ module _ {shared : ObjectData} {reg word node look : ℕ} {rec new : List ℕ} {
   lost_refuse = record { changing = lost_changing; idle = put_holding p; own = put_own p; unlike = lost_unlike }
 
   -- what the call spent
-  pub lost_fits : ScansForWant No lost_all before
+  pub lost_fits : ScansForWant 1 No lost_all before
   lost_fits =
       let some_tried = l.some_tried in
       let none = l.none_scanned in
@@ -111,18 +112,17 @@ module _ {shared : ObjectData} {reg word node look : ℕ} {rec new : List ℕ} {
 pub swap_won : {shared : ObjectData} {reg word node look : ℕ} {old new : List ℕ} {steps : List Counted} {before now after final : SeatData}
     → Trying shared reg word node old new steps look before now → HasWon reg word node (Swap reg old new) now after → EndsClaims after final → IsSeat final
     → Costs 0 0 (2 * WIDTH + 8 + 4 * before.view.plan.seats) steps → IsSwapped reg old new SwapYes before final × IsReady shared final
-swap_won {shared} {reg} {old} {new} {steps} {before} {now} t won ended last costs =
-    let was = same_from_words old old refl in
-    let w = won_call Yes t won ended last in
-    let g = gives_swap reg old new (register_at now.view (claim_of BACK now.view).at reg) (ap (λ (l : List ℕ). is_same l old) t.working.record_is ∙ was) in
-    let a = answered_won w g in
-    let all = all_steps w g in
+swap_won {reg} {old} {new} {steps} {before} t won ended last costs =
+    let w = won_call t won ended last refl (λ c held. refl) refl in
+    let a = answered_won w (won_reply w (swap_replies reg old new)) in
+    let all = all_steps w in
     let spent : SwapCosts before a.0.steps =
-    subst (λ (l : List Counted). SwapCosts before l) (sym a.1) (costs_within (won_costs w g costs) (omega arith) (omega arith) (omega arith)) in (
+    subst (λ (l : List Counted). SwapCosts before l) (sym a.1) (costs_within (won_costs w costs) (omega arith) (omega arith) (omega arith)) in (
       record {
         answered = a.0;
-        hold = won_stays w g;
-        scans = subst (λ (l : List Counted). ScansForWant Yes l before) (sym a.1) (scans_fit Yes steps all before t.changing.scans (won_scanned w g) (won_tried w g));
+        nodes = nodes_stay (λ rs. (refl, refl)) a.0;
+        hold = won_stays w;
+        scans = subst (λ (l : List Counted). ScansForWant 1 Yes l before) (sym a.1) (scans_fit Yes steps all before t.changing.scans (won_scanned w) (won_tried w));
         no = λ e. absurd cc;
         full = λ need free e. absurd cc;
         enough = λ many need free e. absurd cc;
@@ -131,5 +131,5 @@ swap_won {shared} {reg} {old} {new} {steps} {before} {now} t won ended last cost
         same = λ e. absurd (false≢true (sym t.working.other ∙ same_from_words old new e));
         bound = spent.most;
       },
-      won_ready w g shared t.changing.began.ready t.changing.walk,
+      won_idle t ended w,
     )

@@ -1,16 +1,20 @@
 -- A call that holds a prepared node for its register, and tries its exchange.
-use Rattle.std.proofs.Common.{◌≡◌, ◌∙◌, ℕ, ◌+◌, ◌*◌, ◌/◌, ◌<◌, ◌≤◌, Bool, true, false, not, ◌&&◌, cond, List, [], ◌∷◌, ◌++◌, Some, length, refl, sym, ap, subst, arith, ◌⊎◌, inl, inr, ⊎_elim}
+use Rattle.std.proofs.Common.{◌≡◌, ◌∙◌, ℕ, ◌+◌, ◌*◌, ◌/◌, ◌<◌, ◌≤◌, Bool, true, false, not, ◌&&◌, cond, List, [], ◌∷◌, ◌++◌, Option, Some, length, refl, sym, ap, subst, arith, ◌⊎◌, inl, inr, ⊎_elim}
+use Rattle.std.proofs.lemmas.Bool.{and_parts}
+use Rattle.big_atomic.proofs.Answered.{MayEnd, goes_of}
+use Rattle.big_atomic.proofs.Ending.{EndsClaims, both_back, both_own, both_steps, both_walk, ends_both}
 use Rattle.big_atomic.proofs.Goings.{calling_then}
 use Rattle.big_atomic.proofs.Paid.{scan_loads-append, costs_then}
-use Rattle.big_atomic.proofs.Winning.{GivesRecord, WonCall, EndsClaims}
+use Rattle.big_atomic.proofs.Winning.{WonCall, won_claims, won_ready}
 use Rattle.big_atomic.specs.Calling.{Goes, HasClaim, HasWon, IsChanging, IsPrepared, IsWorking, Costs}
 use Rattle.big_atomic.specs.Calls.{ScansForWant, register_at}
+use Rattle.big_atomic.specs.Ready.{IsReady}
 use Rattle.big_atomic.specs.Turns.{exchanges, scan_loads}
 use Rattle.seat_history.proofs.Changed.{set_at_here, same_from_words}
 use Rattle.seat_history.specs.Change.{is_change}
 use Rattle.seat_history.specs.Contents.{Contents, set_at}
 use Rattle.seat_history.specs.History.{state_at}
-use Rattle.seat_history.specs.Step.{contents_after, is_same}
+use Rattle.seat_history.specs.Step.{contents_after, held_after, is_same, reply_to}
 use Rattle.seat_history.specs.declared.call.Call.{Call}
 use Rattle.seat_history.specs.declared.call.Call.TheVariants.{Store, Swap}
 use Rattle.seat_history.specs.declared.entry.Entry.{Entry}
@@ -23,12 +27,12 @@ use Rattle.step_rules.specs.Claims.{BACK, HOLD, OWN, On, WALK}
 use Rattle.step_rules.specs.History.{IsWide, cell_of, IsThere}
 use Rattle.step_rules.specs.Kinds.Backup.{MayExchange}
 use Rattle.step_rules.specs.Lawful.{IsRight}
+use Rattle.step_rules.specs.Records.{removes_of}
 use Rattle.step_rules.specs.SeatData.{IsOf, IsSeat, ObjectData, SeatData}
 use Rattle.step_rules.specs.Views.{claim_of, look_at, silent, reading}
 use Rattle.step_rules.specs.declared.plan.Plan.{Plan}
 use Rattle.step_rules.specs.declared.view.Claim.{Claim}
 use Rattle.step_rules.specs.declared.view.Counted.{Counted}
-use Rattle.big_atomic.proofs.Answered.{MayEnd, goes_of}
 use Rattle.step_rules.specs.declared.view.View.{View}
 
 -- a call with its past that holds a prepared node
@@ -67,7 +71,7 @@ changing_end {reg} {now} q call reply c idle there on late right full = record {
 
 -- the node was prepared
 pub trying : {shared : ObjectData} {reg word node look : ℕ} {rec new : List ℕ} {steps : List Counted} {before mid now : SeatData} → IsChanging shared reg steps look before mid
-    → HasClaim BACK reg word mid.view → register_at mid.view (length mid.view.seen) reg ≡ rec → is_same rec new ≡ false → mid.holding ≡ []
+    → HasClaim BACK reg word mid → register_at mid.view (length mid.view.seen) reg ≡ rec → is_same rec new ≡ false → mid.holding ≡ []
     → (p : IsPrepared node new mid now) → IsSeat now → Trying shared reg word node rec new (steps ++ p.steps) look before now
 trying {shared} {reg} {word} {node} {rec} {new} {before} {mid} {now} c claim is other idle p law =
     let back : claim_of BACK now.view ≡ claim_of BACK mid.view = p.others BACK (λ e. absurd (omega arith)) in
@@ -94,6 +98,7 @@ trying {shared} {reg} {word} {node} {rec} {new} {before} {mid} {now} c claim is 
       own = p.own;
       words = p.words;
       mine = p.mine;
+      none = p.noted ∙ claim.none refl;
       left = left;
       sound = law.sound;
     }
@@ -140,39 +145,39 @@ may_swap {reg} {old} {new} w old_wide wide =
     (λ c is. ap (λ (l : List ℕ). is_same l old && not (is_same old new)) is ∙ (ap (λ (b : Bool). b && not (is_same old new)) was ∙ ap not w.other)) (old_wide, wide)
     (λ c is. ap (λ (b : Bool). (cond b (set_at c.registers reg new) c.registers) reg) (ap (λ (l : List ℕ). is_same l old) is ∙ was) ∙ set_at_here c.registers reg new)
 
--- the two calls that give a register a record
-pub gives_store : (reg : ℕ) (new there : List ℕ) → GivesRecord reg (Store reg new) Done there
-gives_store reg new there = record { on = λ p. refl; replies = λ c held is. refl; keeps = λ c held. refl; drops = λ v. refl; removes = refl }
+-- what the two calls that give a register a record reply where they change it
+pub store_replies : (reg : ℕ) (new : List ℕ) (c : Contents) (held : Option (List ℕ)) → is_change c (Store reg new) ≡ true → reply_to c held (Store reg new) ≡ Done
+store_replies reg new c held changes = refl
 
-pub gives_swap : (reg : ℕ) (old new there : List ℕ) → is_same there old ≡ true → GivesRecord reg (Swap reg old new) Yes there
-gives_swap reg old new there was = record {
-  on = λ p. refl;
-  replies = λ c held is. ap (λ (b : Bool). cond b Yes No) (ap (λ (l : List ℕ). is_same l old) is ∙ was);
-  keeps = λ c held. refl;
-  drops = λ v. refl;
-  removes = refl;
-}
+pub swap_replies : (reg : ℕ) (old new : List ℕ) (c : Contents) (held : Option (List ℕ)) → is_change c (Swap reg old new) ≡ true → reply_to c held (Swap reg old new) ≡ Yes
+swap_replies reg old new c held changes = ap (λ (b : Bool). cond b Yes No) (and_parts (is_same (c.registers reg) old) (not (is_same old new)) changes).0
 
 -- the exchange won
-pub won_call : {shared : ObjectData} {reg word node look : ℕ} {rec new : List ℕ} {call : Call} {steps : List Counted} {before now after final : SeatData} (told : Reply)
+pub won_call : {shared : ObjectData} {reg word node look : ℕ} {rec new : List ℕ} {call : Call} {steps : List Counted} {before now after final : SeatData}
     → Trying shared reg word node rec new steps look before now → HasWon reg word node call now after → EndsClaims after final → IsSeat final
-    → WonCall reg word node call told steps look before now after final
-won_call {reg} told t won ended last = record {
+    → cell_of before.view.plan call ≡ reg → ((c : Contents) (held : Option (List ℕ)) → held_after c held call ≡ held) → removes_of call ≡ 0
+    → WonCall reg word node call steps (both_steps after) look before now after final
+won_call {after = after} {final = final} t won ended last on keeps spares = record {
   calling = t.changing.calling;
   won = won;
-  ended = ended;
+  ended = ends_both after final ended;
   first = t.changing.began.law;
-  middle = t.law;
   last = last;
   idle = t.changing.began.ready.idle;
-  held = t.working.holding;
-  stands = t.working.stands;
-  cell = t.working.cell;
-  inside = subst (λ (p : Plan). reg < p.registers) (sym t.changing.began.ready.ours.plan) t.changing.began.there;
   left = t.changing.began.left;
+  on = on;
+  keeps = keeps;
+  spares = spares;
 }
 
--- a scan of a call that tried its exchange was for want of a node
-pub scans_fit : (told : Reply) (a b : List Counted) (before : SeatData) → ((scan_loads a ≡ 0) ⊎ ((scan_loads a ≡ 4 * before.view.plan.seats) × (before.free ≡ [])))
-    → scan_loads b ≡ scan_loads a → 0 < exchanges b → ScansForWant told b before
+-- and the seat is ready
+pub won_idle : {shared : ObjectData} {reg word node look : ℕ} {rec new : List ℕ} {call : Call} {steps : List Counted} {before now after final : SeatData}
+    → Trying shared reg word node rec new steps look before now → EndsClaims after final → WonCall reg word node call steps (both_steps after) look before now after final
+    → IsReady shared final
+won_idle {shared} {after = after} {final = final} t ended w = won_ready w shared t.changing.began.ready (both_back after final ended)
+    (ap (λ (y : Claim). y.word) (both_walk after final ended ∙ won_claims w WALK) ∙ t.changing.walk) (both_own after final ended)
+
+-- a scan of a call that tried its exchange was for want of nodes
+pub scans_fit : {need : ℕ} (told : Reply) (a b : List Counted) (before : SeatData) → ((scan_loads a ≡ 0) ⊎ ((scan_loads a ≡ 4 * before.view.plan.seats) × (length before.free < need)))
+    → scan_loads b ≡ scan_loads a → 0 < exchanges b → ScansForWant need told b before
 scans_fit told a b before scans same tried = ⊎_elim (λ e. inl (same ∙ e)) (λ e. inr (same ∙ e.0, e.1, inr tried)) scans

@@ -1,5 +1,5 @@
 -- What a call knows between its steps.
-use Rattle.std.specs.Prelude.{◌≡◌, ℕ, ◌+◌, ◌*◌, ◌-◌, ◌/◌, ◌<◌, ◌≤◌, Bool, true, false, suc, zero, List, [], ◌∷◌, ◌++◌, Option, Some, None, ◌⊎◌, length, take, drop, unwrap_or, if◌then◌else◌}
+use Rattle.std.specs.Prelude.{◌≡◌, ◌≢◌, ℕ, ◌+◌, ◌*◌, ◌-◌, ◌/◌, ◌<◌, ◌≤◌, Bool, true, false, suc, zero, List, [], ◌∷◌, ◌++◌, Option, Some, None, ◌⊎◌, length, take, drop, unwrap_or, if◌then◌else◌}
 use Rattle.big_atomic.specs.Calls.{IsStored, IsSwapped, register_at}
 use Rattle.big_atomic.specs.Ready.{IsReady}
 use Rattle.big_atomic.specs.Turns.{TurnsArePaid, changes_on, exchanges, last_look, lost_steps, scan_loads}
@@ -21,7 +21,7 @@ use Rattle.step_rules.specs.History.{GoesOn, NoneOn}
 use Rattle.step_rules.specs.Kinds.Standing.{first_look}
 use Rattle.step_rules.specs.SeatData.{IsOf, IsSeat, ObjectData, SeatData}
 use Rattle.step_rules.specs.Sound.{Sound}
-use Rattle.step_rules.specs.Steps.{Won, stepped}
+use Rattle.step_rules.specs.Steps.{OnlyStepped, Won, stepped}
 use Rattle.step_rules.specs.Views.{claim_of, counted, look_at, number, stock, words_in}
 use Rattle.step_rules.specs.World.{has, nodes_of}
 use Rattle.step_rules.specs.declared.view.Counted.{Counted}
@@ -30,7 +30,7 @@ use Rattle.step_rules.specs.declared.view.View.{View}
 
 -- the view w differs from v at most in what steps before a stand change
 abbrev pub OnlySteps : View → View → Type 0
-OnlySteps v w = w ≡ record v { seen = w.seen; own = w.own; retired = w.retired; look = w.look; trail = w.trail; claims = w.claims; links = w.links; scan = w.scan }
+OnlySteps v w = w ≡ record v { seen = w.seen; own = w.own; retired = w.retired; look = w.look; trail = w.trail; claims = w.claims; scan = w.scan }
 
 -- a call on the cell k made these steps, and none of them added a stand. `found` is how much it had seen at its last look before them, and at
 -- its last look in them it saw all that it has seen
@@ -59,9 +59,9 @@ pub record IsLooked (k : ℕ) (steps : List Counted) (look : ℕ) (before now : 
   pub upto : look ≤ length now.view.seen
   pub few : lost_steps steps ≤ changes_on before.view.plan k (number before.view) (drop look now.view.seen)
 
--- the seat's lists stay, and so do its claims but for one
+-- the seat's lists stay but for the links noted, and so do its claims but for one
 pub record Stays (c : ℕ) (before now : SeatData) : Type 0 where
-  pub same : now ≡ stepped now.view before
+  pub same : OnlyStepped before now
   pub retired : now.view.retired ≡ before.view.retired
   pub own : now.view.own ≡ before.view.own
   pub others : (d : ℕ) → (d ≡ c → ⊥) → claim_of d now.view ≡ claim_of d before.view
@@ -71,16 +71,17 @@ pub record AreLooks (steps : List Counted) : Type 0 where
   pub none_exchanged : exchanges steps ≡ 0
   pub none_scanned : scan_loads steps ≡ 0
 
--- the word was found last in the register's cell, at the end of what is seen
+-- the word was found last in the cell, at the end of what is seen
 abbrev pub HasFound : ℕ → ℕ → View → Type 0
 HasFound reg word v = v.look ≡ Some (look_at reg word (length v.seen))
 
--- the claim stands on the node of the word that was found last in the register's cell
-pub record HasClaim (c reg word : ℕ) (v : View) : Type 0 where
-  pub stands : On (claim_of c v) (word / 2)
-  pub cell : (claim_of c v).cell ≡ reg
-  pub now_at : (claim_of c v).at ≡ length v.seen
-  pub found : HasFound reg word v
+-- the claim stands on the node of the word that was found last in the register's cell; under Back no link was noted since
+pub record HasClaim (c reg word : ℕ) (seat : SeatData) : Type 0 where
+  pub stands : On (claim_of c seat.view) (word / 2)
+  pub cell : (claim_of c seat.view).cell ≡ reg
+  pub now_at : (claim_of c seat.view).at ≡ length seat.view.seen
+  pub found : HasFound reg word seat.view
+  pub none : c ≡ BACK → seat.noted ≡ []
 
 -- one look
 abbrev pub LookedOnce : ℕ → ℕ → SeatData → SeatData → Type 0
@@ -98,7 +99,7 @@ pub record TurnedOnce (c reg seen word : ℕ) (before now : SeatData) : Type 0 w
 
 -- the same node was found, and the claim stands; or another one, and then the history has an entry on the register since
 abbrev pub HasTurned : ℕ → ℕ → ℕ → Rechecked → SeatData → SeatData → Type 0
-HasTurned c reg seen (Same word) before now = TurnedOnce c reg seen word before now × (lost_steps (turn_steps c reg seen word before now) ≡ 0) × HasClaim c reg word now.view
+HasTurned c reg seen (Same word) before now = TurnedOnce c reg seen word before now × (lost_steps (turn_steps c reg seen word before now) ≡ 0) × HasClaim c reg word now
 HasTurned c reg seen (Other word) before now = TurnedOnce c reg seen word before now × (lost_steps (turn_steps c reg seen word before now) ≡ 1)
     × (¬ NoneOn now.view.plan reg (drop (length before.view.seen) now.view.seen))
 
@@ -114,7 +115,7 @@ pub record HasSeen (c reg word : ℕ) (before now : SeatData) : Type 0 where
 
 -- the node that the register's cell names is claimed
 abbrev pub HasClaimed : ℕ → ℕ → ℕ → SeatData → SeatData → Type 0
-HasClaimed c reg word before now = HasSeen c reg word before now × HasClaim c reg word now.view
+HasClaimed c reg word before now = HasSeen c reg word before now × HasClaim c reg word now
 
 -- and its record, which is the register's at the end of what is seen, was read
 abbrev pub HasClaimedRecord : ℕ → ℕ → ℕ → List ℕ → SeatData → SeatData → Type 0
@@ -122,7 +123,7 @@ HasClaimedRecord c reg word rec before now = HasClaimed c reg word before now ×
 
 -- one look and one turn
 abbrev pub HasTried : ℕ → ℕ → Rechecked → SeatData → SeatData → Type 0
-HasTried c reg (Same word) before now = (s : HasSeen c reg word before now) × (length s.steps ≡ 3) × (lost_steps s.steps ≡ 0) × HasClaim c reg word now.view
+HasTried c reg (Same word) before now = (s : HasSeen c reg word before now) × (length s.steps ≡ 3) × (lost_steps s.steps ≡ 0) × HasClaim c reg word now
 HasTried c reg (Other word) before now = (s : HasSeen c reg word before now) × (length s.steps ≡ 3) × (lost_steps s.steps ≤ 1) × (¬ NoneOn now.view.plan reg (drop s.look now.view.seen))
 
 -- a node's record was read
@@ -149,7 +150,7 @@ pub record HasOnlyLooked (shared : ObjectData) (reg : ℕ) (steps : List Counted
   pub calling : Calling reg steps look before now
   pub began : Began shared reg before
   pub looks : AreLooks steps
-  pub same : now ≡ stepped now.view before
+  pub same : OnlyStepped before now
   pub retired : now.view.retired ≡ before.view.retired
   pub walk : (claim_of WALK now.view).word ≡ 0
   pub own : (claim_of OWN now.view).word ≡ 0
@@ -158,7 +159,7 @@ pub record HasOnlyLooked (shared : ObjectData) (reg : ℕ) (steps : List Counted
 pub record IsChanging (shared : ObjectData) (reg : ℕ) (steps : List Counted) (look : ℕ) (before now : SeatData) : Type 0 where
   pub calling : Calling reg steps look before now
   pub began : Began shared reg before
-  pub scans : (scan_loads steps ≡ 0) ⊎ ((scan_loads steps ≡ 4 * before.view.plan.seats) × (before.free ≡ []))
+  pub scans : (scan_loads steps ≡ 0) ⊎ ((scan_loads steps ≡ 4 * before.view.plan.seats) × (length before.free < 1))
   pub walk : (claim_of WALK now.view).word ≡ 0
 
 -- a node is free; where none was, the seat scanned
@@ -182,9 +183,10 @@ pub record IsPrepared (node : ℕ) (rec : List ℕ) (before now : SeatData) : Ty
   pub others : (c : ℕ) → (c ≡ OWN → ⊥) → claim_of c now.view ≡ claim_of c before.view
   pub seen : now.view.seen ≡ before.view.seen
   pub look : now.view.look ≡ before.view.look
+  pub noted : now.noted ≡ before.noted
 
 -- the Back claim stands on the node of the word that was found last in the register's cell, with the record that the register had where the claim
--- began to stand, and not the new one; the seat holds just the node with the new one, and has announced it
+-- began to stand, and not the new one; the seat holds just the node with the new one, and has announced it; no link is noted
 pub record IsWorking (shared : ObjectData) (reg word node : ℕ) (now_there new : List ℕ) (seat : SeatData) : Type 0 where
   pub ours : IsOf shared seat
   pub there : reg < shared.plan.registers
@@ -197,6 +199,7 @@ pub record IsWorking (shared : ObjectData) (reg word node : ℕ) (now_there new 
   pub own : has (nodes_of seat.view.own) node ≡ true
   pub words : words_in seat.view.own node ≡ new ++ 0 ∷ []
   pub mine : On (claim_of OWN seat.view) node
+  pub none : seat.noted ≡ []
   pub left : 0 < seat.view.changes
   pub sound : Sound seat.view
 
@@ -219,8 +222,8 @@ pub record HasWon (reg word node : ℕ) (call : Call) (before after : SeatData) 
   pub won : Won reg found node call mid after
   pub sound : Sound after.view
 
--- the exchange found another node: since it was tried the history has an entry on the register
-pub record HasLost (reg : ℕ) (before now : SeatData) : Type 0 where
+-- the exchange found a word with another node: since it was tried the history has an entry on the cell
+pub record HasLost (reg word other : ℕ) (before now : SeatData) : Type 0 where
   pub tries : List Counted
   pub goes : Goes reg (Some (length before.view.seen)) tries before now
   pub one_lost : lost_steps tries ≤ 1
@@ -230,6 +233,8 @@ pub record HasLost (reg : ℕ) (before now : SeatData) : Type 0 where
   pub view : now.view ≡ record before.view { seen = now.view.seen; look = now.view.look; trail = now.view.trail }
   pub same : now ≡ stepped now.view before
   pub changed : ¬ NoneOn now.view.plan reg (drop (length before.view.seen) now.view.seen)
+  pub found : HasFound reg other now.view
+  pub far : other / 2 ≢ word / 2
 
 -- whatever came before in the call, the store is done, and the seat is ready
 abbrev pub EndsStore : ObjectData → ℕ → List ℕ → SeatData → SeatData → Type 0

@@ -16,6 +16,7 @@ use Rattle.step_rules.specs.Claims.{HOLD}
 use Rattle.step_rules.specs.Lawful.{held_by, is_full}
 use Rattle.step_rules.specs.SeatData.{IsHolding, SeatData, holds_record}
 use Rattle.step_rules.specs.Steps.{HasScanned}
+use Rattle.step_rules.specs.Stock.{stand_cost, stand_gain}
 use Rattle.step_rules.specs.Stood.{Stood, StoodStill}
 use Rattle.step_rules.specs.Views.{claim_of, counted, number, stock}
 use Rattle.step_rules.specs.declared.layout.TheConstants.{NODE_WIDTH}
@@ -30,17 +31,25 @@ pub record NodesStay (before after : SeatData) : Type 0 where
   pub first : after.first ≡ before.first
   pub nodes : length after.free + length after.view.retired ≡ length before.free + length before.view.retired
 
+-- the seat is of the same object, and its nodes are those that it had, less what the stand cost and with what it gave
+pub record NodesBalance (stand : Stand) (before after : SeatData) : Type 0 where
+  pub object : after.object ≡ before.object
+  pub first : after.first ≡ before.first
+  pub even : length after.free + length after.view.retired + stand_cost after.view.plan after.view.seen stand
+      ≡ length before.free + length before.view.retired + stand_gain after.view.plan after.view.seen stand
+
 -- the seat's Hold claim and its held record stay
 pub record HoldStays (before after : SeatData) : Type 0 where
   pub claim : claim_of HOLD after.view ≡ claim_of HOLD before.view
   pub held : held_by after.view.seen (number after.view) after.view.stands ≡ held_by before.view.seen (number before.view) before.view.stands
 
--- a call on the cell k was answered: one stand was added, no node was lost, and each turn but the first has another caller's change of the cell
+-- a call on the cell k was answered: one stand was added, no node was lost but for what the stand cost, and each turn but the first has another
+-- caller's change of the cell
 pub record Answered (k : ℕ) (asked : Call) (told : Reply) (before after : SeatData) : Type 0 where
   pub stand : Stand
   pub steps : List Counted
   pub stood : Stood asked told stand steps before.view after.view
-  pub nodes : NodesStay before after
+  pub nodes : NodesBalance stand before after
   pub paid : TurnsArePaid before.view.plan k (number before.view) after.view.seen None steps
   -- so there are at most as many lost steps as such changes since the call's first look
   pub few : lost_steps steps ≤ changes_on before.view.plan k (number before.view) (drop stood.look after.view.seen)
@@ -54,9 +63,10 @@ pub record IsFullAnswer (need free : ℕ) (steps : List Counted) (before after :
   pub retired : after.view.retired ≡ filter (λ n. names n scan.loads) before.view.retired
   pub few_retired : length after.view.retired ≤ 4 * before.view.plan.seats
 
--- a scan was made once at most, and only where no node was free and one was needed: then an exchange was tried, or the answer is Full
-abbrev pub ScansForWant : Reply → List Counted → SeatData → Type 0
-ScansForWant told steps before = (scan_loads steps ≡ 0) ⊎ ((scan_loads steps ≡ 4 * before.view.plan.seats) × (before.free ≡ []) × ((is_full told ≡ true) ⊎ (0 < exchanges steps)))
+-- a scan was made once at most, and only where fewer nodes were free than were needed: then an exchange was tried, or the answer is Full
+abbrev pub ScansForWant : ℕ → Reply → List Counted → SeatData → Type 0
+ScansForWant need told steps before =
+    (scan_loads steps ≡ 0) ⊎ ((scan_loads steps ≡ 4 * before.view.plan.seats) × (length before.free < need) × ((is_full told ≡ true) ⊎ (0 < exchanges steps)))
 
 -- no node changed hands, no exchange was tried, and no scan was made
 pub record IsQuiet (steps : List Counted) (before after : SeatData) : Type 0 where
@@ -72,6 +82,7 @@ register_at v place reg = (state_at v.seen place).registers reg
 -- a load was answered
 pub record IsLoaded (reg : ℕ) (words : List ℕ) (before after : SeatData) : Type 0 where
   pub answered : Answered reg (Load reg) (Words words) before after
+  pub nodes : NodesStay before after
   pub there : register_at after.view answered.stand.place reg ≡ words
   pub quiet : IsQuiet answered.steps before after
   pub hold : HoldStays before after
@@ -84,8 +95,9 @@ store_reply (StoreFull need free) = Full need free
 -- a store was answered
 pub record IsStored (reg : ℕ) (new : List ℕ) (answer : Stored) (before after : SeatData) : Type 0 where
   pub answered : Answered reg (Store reg new) (store_reply answer) before after
+  pub nodes : NodesStay before after
   pub hold : HoldStays before after
-  pub scans : ScansForWant (store_reply answer) answered.steps before
+  pub scans : ScansForWant 1 (store_reply answer) answered.steps before
   pub full : (need free : ℕ) → answer ≡ StoreFull need free → IsFullAnswer need free answered.steps before after
   -- a seat that has more nodes than there are claim words is never short of one
   pub enough : 4 * before.view.plan.seats < stock before.view → answer ≡ StoreDone
@@ -104,8 +116,9 @@ pub record IsFirstUnlike (reg : ℕ) (old : List ℕ) (look place : ℕ) (w : Vi
 -- a compare-and-swap was answered
 pub record IsSwapped (reg : ℕ) (old new : List ℕ) (answer : Answer) (before after : SeatData) : Type 0 where
   pub answered : Answered reg (Swap reg old new) (swap_reply answer) before after
+  pub nodes : NodesStay before after
   pub hold : HoldStays before after
-  pub scans : ScansForWant (swap_reply answer) answered.steps before
+  pub scans : ScansForWant 1 (swap_reply answer) answered.steps before
   -- No stands at the first unlike place from the call's first look on
   pub no : answer ≡ SwapNo → IsFirstUnlike reg old answered.stood.look answered.stand.place after.view
   pub full : (need free : ℕ) → answer ≡ SwapFull need free → IsFullAnswer need free answered.steps before after
@@ -119,6 +132,7 @@ pub record IsSwapped (reg : ℕ) (old new : List ℕ) (answer : Answer) (before 
 -- the register's record of the stand's place is held
 pub record IsHeld (reg : ℕ) (before after : SeatData) : Type 0 where
   pub answered : Answered reg (Hold reg) Done before after
+  pub nodes : NodesStay before after
   pub holds : IsHolding (register_at after.view answered.stand.place reg) after.view
   pub quiet : IsQuiet answered.steps before after
 

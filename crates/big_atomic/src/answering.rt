@@ -2,7 +2,7 @@
 ghost use Rattle.std.specs.Prelude.{◌≡◌, length};
 ghost use Rattle.step_rules.specs.Claims.{BACK};
 ghost use Rattle.step_rules.specs.SeatData.{IsOf, IsSeat};
-ghost use Rattle.step_rules.specs.Steps.{MayAnswer, stepped};
+ghost use Rattle.step_rules.specs.Steps.{MayAnswer, stepped, unnoted};
 ghost use Rattle.step_rules.specs.Views.{cleared_view, stood_view};
 
 use hazard_claims::{Claim, release};
@@ -26,7 +26,7 @@ pub(crate) fn stand_now(shared: &Shared, seat: &mut Seat, call: Call, reply: Rep
 pub fn answer_now(shared: &Shared, seat: &mut Seat, call: Call, reply: Reply)
     requires ours { IsOf shared.now seat.old }
     requires may { MayAnswer (length seat.old.view.seen) call reply seat.old }
-    ensures seat { seat.new ≡ stepped (stood_view (length seat.old.view.seen) call reply (cleared_view BACK seat.old.view)) seat.old }
+    ensures seat { seat.new ≡ stepped (stood_view (length seat.old.view.seen) call reply (cleared_view BACK seat.old.view)) (unnoted BACK seat.old) }
     ensures law { IsSeat seat.new }
 {
     seat.law();

@@ -17,3 +17,12 @@ pub enum Swap {
     /// The register was the old record and stays so, since fewer nodes are free than are needed.
     Full { need: u32, free: u32 },
 }
+
+/// What an install answers.
+#[derive(Clone, Copy, Debug, Drop, PartialEq, Eq)]
+pub enum Install {
+    /// The cell has the new chain: the call is the last of the history.
+    Installed,
+    /// The cell's backup was found to name another node, by this word. The cell and the history stay.
+    Moved(u64),
+}

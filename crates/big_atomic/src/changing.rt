@@ -1,12 +1,14 @@
 //! What calls that change a register have in common.
 ghost use Rattle.std.specs.Prelude.{◌≡◌, ◌<◌, true, false, length};
-ghost use Rattle.big_atomic.specs.Calling.{HasFound, HasLost, HasRoom, HasWon, IsPrepared};
+ghost use Rattle.big_atomic.specs.Calling.{HasRoom, IsPrepared};
+ghost use Rattle.big_atomic.specs.Installing.{Exchanged, HasNear};
 ghost use Rattle.step_rules.specs.Claims.{BACK, OWN};
-ghost use Rattle.step_rules.specs.Kinds.Backup.{DropsFirst, MayExchange};
+ghost use Rattle.step_rules.specs.Kinds.Backup.{MayExchange};
 ghost use Rattle.step_rules.specs.SeatData.{IsOf, IsSeat};
-ghost use Rattle.step_rules.specs.Steps.{HoldsFront, stepped};
+ghost use Rattle.step_rules.specs.Steps.{DropsNoted, HoldsFront, stepped, unnoted};
 ghost use Rattle.step_rules.specs.Views.{claim_of, cleared_view};
 
+use crate::answers::Install;
 use crate::claiming::words_of;
 use hazard_claims::{Claim, announce, release, scan};
 use node_pool::{fill, take};
@@ -43,43 +45,46 @@ pub(crate) fn prepare_node(shared: &Shared, seat: &mut Seat, rec: Rec) -> u32
     node
 }
 
-/// Exchanges the backup of a register from a word to the held node, and answers whether it did. Where
-/// only the mark of the word was cleared meanwhile, it tries once more, from the word found.
+/// Exchanges the backup of a cell from a word to the held node. Where only the mark of the word was
+/// cleared meanwhile, it tries once more, from the word found.
 pub(crate) fn exchange(
     shared: &Shared,
     seat: &mut Seat,
-    reg: u32,
+    cell: u32,
     word: u64,
     node: u32,
     call: Call,
-) -> bool
+) -> Install
     requires ours { IsOf shared.now seat.old }
-    requires there { reg < shared.now.plan.registers }
-    requires may { MayExchange reg word node call seat.old.view }
+    requires may { MayExchange cell word node call seat.old.view }
     requires front { HoldsFront node call seat.old }
-    requires first { DropsFirst call seat.old.view }
-    requires found { HasFound reg word seat.old.view }
-    ensures won { result ≡ true → HasWon reg word node call seat.old seat.new }
-    ensures lost { result ≡ false → HasLost reg seat.old seat.new }
+    requires noted { DropsNoted call seat.old }
+    requires found { HasNear cell word seat.old.view }
+    ensures exchanged { Exchanged cell word node call result seat.old seat.new }
+    ensures law { IsSeat seat.new }
 {
     seat.law();
-    let found = backup_exchange(shared, seat, reg, word, node, call);
+    let found = backup_exchange(shared, seat, cell, word, node, call);
     seat.law();
     if found == word {
-        return true;
+        return Install::Installed;
     }
     if found / 2 != word / 2 {
-        return false;
+        return Install::Moved(found);
     }
-    let again = backup_exchange(shared, seat, reg, found, node, call);
+    let again = backup_exchange(shared, seat, cell, found, node, call);
     seat.law();
-    again == found
+    if again == found {
+        Install::Installed
+    } else {
+        Install::Moved(again)
+    }
 }
 
 /// Ends the claims of a call that has exchanged.
 pub(crate) fn end_change(shared: &Shared, seat: &mut Seat)
     requires ours { IsOf shared.now seat.old }
-    ensures seat { seat.new ≡ stepped (cleared_view BACK (cleared_view OWN seat.old.view)) seat.old }
+    ensures seat { seat.new ≡ stepped (cleared_view BACK (cleared_view OWN seat.old.view)) (unnoted BACK seat.old) }
     ensures law { IsSeat seat.new }
 {
     release(shared, seat, Claim::Own);

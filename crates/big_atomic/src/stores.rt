@@ -6,7 +6,7 @@ ghost use Rattle.step_rules.specs.SeatData.{SeatData};
 ghost use Rattle.step_rules.specs.declared.view.Counted.{Counted};
 
 use crate::answering::answer_now;
-use crate::answers::Stored;
+use crate::answers::{Install, Stored};
 use crate::changing::{end_change, exchange, make_room, prepare_node};
 use crate::claiming::claim_record;
 use hazard_claims::{Claim, release};
@@ -38,12 +38,12 @@ pub fn store(shared: &Shared, seat: &mut Seat, reg: u32, new: Rec) -> Stored
     }
     let node = prepare_node(shared, seat, new);
     seat.law();
-    install(shared, seat, reg, found.word, node, new);
+    replace_record(shared, seat, reg, found.word, node, new);
     Stored::Done
 }
 
 // Tries exchanges until one wins, or the register has the record.
-fn install(shared: &Shared, seat: &mut Seat, reg: u32, word: u64, node: u32, new: Rec)
+fn replace_record(shared: &Shared, seat: &mut Seat, reg: u32, word: u64, node: u32, new: Rec)
     requires past { (before : SeatData) × (steps : List Counted) × (look : ℕ) × IsChanging shared.now reg steps look before seat.old }
     requires working { (rec : List ℕ) × IsWorking shared.now reg word node rec new seat.old }
     ensures done { EndsStore shared.now reg new seat.old seat.new }
@@ -73,10 +73,10 @@ fn replace_once(
 {
     seat.law();
     let call = Call::Store { reg, new };
-    if exchange(shared, seat, reg, word, node, call) {
+    let Install::Moved(_) = exchange(shared, seat, reg, word, node, call) else {
         end_change(shared, seat);
         return None;
-    }
+    };
     let found = claim_record(shared, seat, Claim::Back, reg);
     seat.law();
     if found.rec != new {

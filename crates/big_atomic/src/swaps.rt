@@ -7,12 +7,12 @@ ghost use Rattle.seat_history.specs.declared.call.Call.TheVariants.{Swap as Swap
 ghost use Rattle.seat_history.specs.declared.reply.Reply.TheVariants.{No as NoReply};
 ghost use Rattle.step_rules.specs.Claims.{BACK, OWN};
 ghost use Rattle.step_rules.specs.SeatData.{IsOf, IsSeat, SeatData};
-ghost use Rattle.step_rules.specs.Steps.{MayAnswer, stepped};
+ghost use Rattle.step_rules.specs.Steps.{MayAnswer, stepped, unnoted};
 ghost use Rattle.step_rules.specs.Views.{claim_of, cleared_view, stood_view};
 ghost use Rattle.step_rules.specs.declared.view.Counted.{Counted};
 
 use crate::answering::answer_now;
-use crate::answers::Swap;
+use crate::answers::{Install, Swap};
 use crate::changing::{end_change, exchange, make_room, prepare_node};
 use crate::claiming::{read_record, try_claim};
 use hazard_claims::{Claim, Recheck, release};
@@ -52,7 +52,7 @@ fn swap_claimed<P: Place>(
     new: Rec,
 ) -> Swap
     requires past { (before : SeatData) × (steps : List Counted) × HasOnlyLooked shared.now reg steps P.place before seat.old }
-    requires claim { HasClaim BACK reg word seat.old.view }
+    requires claim { HasClaim BACK reg word seat.old }
     ensures ends { SwapsFromLooks shared.now reg old new P.place result seat.old seat.new }
 {
     let rec = read_record(shared, seat, (word / 2) as u32);
@@ -83,7 +83,7 @@ fn swap_record<P: Place>(
     new: Rec,
 ) -> Swap
     requires past { (before : SeatData) × (steps : List Counted) × IsChanging shared.now reg steps P.place before seat.old }
-    requires claim { HasClaim BACK reg word seat.old.view }
+    requires claim { HasClaim BACK reg word seat.old }
     requires found { register_at seat.old.view (length seat.old.view.seen) reg ≡ old }
     requires other { is_same old new ≡ false }
     requires free { 0 < length seat.old.free }
@@ -94,10 +94,10 @@ fn swap_record<P: Place>(
     let node = prepare_node(shared, seat, new);
     seat.law();
     let call = Call::Swap { reg, old, new };
-    if exchange(shared, seat, reg, word, node, call) {
+    let Install::Moved(_) = exchange(shared, seat, reg, word, node, call) else {
         end_change(shared, seat);
         return Swap::Yes;
-    }
+    };
     release(shared, seat, Claim::Own);
     put_back(shared, seat, node);
     seat.law();
@@ -110,7 +110,7 @@ fn swap_record<P: Place>(
 fn refuse<P: Place>(shared: &Shared, seat: &mut Seat, reg: u32, old: Rec, new: Rec)
     requires ours { IsOf shared.now seat.old }
     requires may { MayAnswer (refused_at P.place (SwapCall reg old new) seat.old.view) (SwapCall reg old new) NoReply seat.old }
-    ensures seat { seat.new ≡ stepped (stood_view (refused_at P.place (SwapCall reg old new) seat.old.view) (SwapCall reg old new) NoReply (cleared_view BACK seat.old.view)) seat.old }
+    ensures seat { seat.new ≡ stepped (stood_view (refused_at P.place (SwapCall reg old new) seat.old.view) (SwapCall reg old new) NoReply (cleared_view BACK seat.old.view)) (unnoted BACK seat.old) }
     ensures law { IsSeat seat.new }
 {
     seat.law();

@@ -1,5 +1,6 @@
 use Rattle.std.proofs.Common.{rules}
-use Rattle.big_atomic.proofs.Preparing.{is_prepared, may_announce, taken_held}
+use Rattle.big_atomic.proofs.Preparing.{is_prepared, may_announce}
+use Rattle.node_pool.proofs.Taken.{taken_held}
 use Rattle.big_atomic.proofs.changing.prepare_node.Goals as goal
 
 pub fill-requires-clause-held : goal.fill-requires-clause-held

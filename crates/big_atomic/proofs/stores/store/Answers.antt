@@ -42,8 +42,8 @@ returns-then-not-make_room c =
 pub prepare_node-node-requires-clause-ours : goal.prepare_node-node-requires-clause-ours
 prepare_node-node-requires-clause-ours c = room_ours (goes_of (c.claim_record-found.ensures.claimed.0.0.goes None) c.requires.ready.ours) c.if-not-make_room.ensures.room
 
-pub install-requires : goal.install-requires
-install-requires c =
+pub replace_record-requires : goal.replace_record-requires
+replace_record-requires c =
     let r = reads_first (begins c.requires.ready c.requires.there c.requires.left c.law.ensures) c.claim_record-found.ensures.claimed c.law-2.ensures in
     let t = filled r (sym c.eq.ensures ∙ c.if-eq.false) c.if-not-make_room.ensures.room c.make_room.ensures.law c.prepare_node-node.ensures.prepared c.law-3.ensures in
     record { past = (c.args.seat.now, t.0, t.1, t.2.changing); working = (c.claim_record-found.result.rec, t.2.working) }
@@ -52,5 +52,5 @@ pub returns : goal.returns
 returns c =
     let r = reads_first (begins c.requires.ready c.requires.there c.requires.left c.law.ensures) c.claim_record-found.ensures.claimed c.law-2.ensures in
     let t = filled r (sym c.eq.ensures ∙ c.if-eq.false) c.if-not-make_room.ensures.room c.make_room.ensures.law c.prepare_node-node.ensures.prepared c.law-3.ensures in
-    let s = c.install.ensures.done c.args.seat.now t.0 t.1 t.2.changing in
+    let s = c.replace_record.ensures.done c.args.seat.now t.0 t.1 t.2.changing in
     record { ready = s.1; stored = s.0 }

@@ -1,0 +1,61 @@
+-- A seat's nodes before and after one more stand.
+use Rattle.std.proofs.Common.{◌≡◌, ◌∙◌, ℕ, ◌+◌, Bool, true, false, cond, List, [], ◌∷◌, ◌++◌, length, refl, sym, ap, subst, arith}
+use Rattle.std.proofs.lemmas.List.Sums.{sum_by_push}
+use Rattle.big_atomic.specs.Calls.{Answered, NodesStay}
+use Rattle.seat_history.specs.declared.call.Call.{Call}
+use Rattle.seat_history.specs.declared.entry.Entry.{Entry}
+use Rattle.seat_history.specs.declared.reply.Reply.{Reply}
+use Rattle.step_rules.proofs.Stocks.{stock_more}
+use Rattle.step_rules.specs.History.{GoesOn}
+use Rattle.step_rules.specs.Records.{cost_at, cost_of, edit_of, found_at, gain_at, gain_of}
+use Rattle.step_rules.specs.SeatData.{IsSeat, SeatData}
+use Rattle.step_rules.specs.Stock.{IsStock, stand_cost, stand_gain}
+use Rattle.step_rules.specs.declared.plan.Plan.{Plan}
+use Rattle.step_rules.specs.declared.view.Stand.{Stand}
+use Rattle.step_rules.specs.declared.view.View.{View}
+
+-- they are even at both, so the stand alone tells them apart
+pub balance : (stand : Stand) {before after : SeatData} → IsSeat before → IsSeat after → before.holding ≡ [] → after.holding ≡ []
+    → after.view.stands ≡ before.view.stands ++ stand ∷ [] → GoesOn before.view.seen after.view.seen → after.view.plan ≡ before.view.plan → after.view.numbers ≡ before.view.numbers
+    → length after.free + length after.view.retired + stand_cost after.view.plan after.view.seen stand
+    ≡ length before.free + length before.view.retired + stand_gain after.view.plan after.view.seen stand
+balance stand {before} {after} first last idle idle_now stands seen plan numbers =
+    let v : View = before.view in
+    let w : View = after.view in
+    let k : IsStock w.plan (length w.numbers) w.seen v.stands (length v.own + length v.retired) v.removes =
+    subst (λ (z : Plan × List ℕ × List Entry). IsStock z.0 (length z.1) z.2 v.stands (length v.own + length v.retired) v.removes)
+    (λ i. (sym plan i, sym numbers i, sym seen.1 i))
+    (stock_more seen.0 (λ i s at. (first.sound.lawful.right i s at).place) first.sound.stock) in
+    let l : IsStock w.plan (length w.numbers) w.seen (v.stands ++ stand ∷ []) (length w.own + length w.retired) w.removes =
+    subst (λ (ss : List Stand). IsStock w.plan (length w.numbers) w.seen ss (length w.own + length w.retired) w.removes) stands last.sound.stock in
+    let was_even = k.even in
+    let is_even = l.even in
+    let a = first.long in
+    let b = last.long in
+    omega (
+      arith,
+      sum_by_push (stand_cost w.plan w.seen) v.stands stand,
+      sum_by_push (stand_gain w.plan w.seen) v.stands stand,
+      ap (length {A = ℕ}) idle,
+      ap (length {A = ℕ}) idle_now,
+    )
+
+-- the call costs its seat no node and gives it none, whatever its cell has
+abbrev pub CostsNone : Call → Type 0
+CostsNone call = (rs : List (List ℕ)) → (cost_of (length rs) (edit_of rs call) ≡ 0) × (gain_of (length rs) (edit_of rs call) ≡ 0)
+
+cond_none : (b : Bool) (x : ℕ) → x ≡ 0 → cond b x 0 ≡ 0
+cond_none true x e = e
+cond_none false x e = refl
+
+-- such a call leaves as many nodes as there were
+pub nodes_stay : {k : ℕ} {call : Call} {told : Reply} {before after : SeatData} → CostsNone call → Answered k call told before after → NodesStay before after
+nodes_stay {call = call} {after = after} none a =
+    let p : Plan = after.view.plan in
+    let seen : List Entry = after.view.seen in
+    let s : Stand = a.stand in
+    let both = none (found_at p seen s.place call) in
+    let cost : stand_cost p seen s ≡ 0 = cond_none s.changes (cost_at p seen s.place s.call) (ap (λ (c : Call). cost_at p seen s.place c) a.stood.call ∙ both.0) in
+    let gain : stand_gain p seen s ≡ 0 = cond_none s.changes (gain_at p seen s.place s.call) (ap (λ (c : Call). gain_at p seen s.place c) a.stood.call ∙ both.1) in
+    let even = a.nodes.even in
+    record { object = a.nodes.object; first = a.nodes.first; nodes = omega arith }

@@ -1,0 +1,147 @@
+-- How a call that has exchanged ends its claims.
+use Rattle.std.proofs.Common.{◌≡◌, ◌≢◌, ◌∙◌, ℕ, ◌≤◌, suc, zero, true, List, [], ◌∷◌, ◌++◌, length, set, get_or, append-nil, append_assoc, refl, sym, ap, subst, arith, inl, inr}
+use Rattle.std.proofs.lemmas.Bool.{false≢true}
+use Rattle.std.proofs.lemmas.List.{get_or-set_other}
+use mathlib.Core.Option.{some, some-injective}
+use lib.ListN.{get_elem?}
+use Rattle.big_atomic.proofs.Paid.{AreStill, scan_loads-append, still-append}
+use Rattle.big_atomic.specs.Turns.{scan_loads}
+use Rattle.hazard_claims.specs.Claiming.{IsReleased, claim_number}
+use Rattle.hazard_claims.specs.Scanning.{ClearsWalk}
+use Rattle.hazard_claims.specs.declared.claims.Claim.{Claim as Which}
+use Rattle.hazard_claims.specs.declared.claims.Claim.TheVariants.{Back, Own, Walk}
+use Rattle.step_rules.specs.Claims.{BACK, HOLD, On, OWN, WALK}
+use Rattle.step_rules.specs.SeatData.{IsOf, ObjectData, SeatData}
+use Rattle.step_rules.specs.Steps.{stepped, unnoted}
+use Rattle.step_rules.specs.Views.{claim_of, cleared_view, counted, silent}
+use Rattle.step_rules.specs.declared.view.Claim.{Claim}
+use Rattle.step_rules.specs.declared.view.Counted.{Counted}
+use Rattle.step_rules.specs.declared.view.Kind.TheVariants.{ClaimClear}
+use Rattle.step_rules.specs.declared.view.View.{View}
+
+-- claims but Hold were ended, by these steps
+pub record EndsBy (clears : List Counted) (u w : SeatData) : Type 0 where
+  pub object : w.object ≡ u.object
+  pub first : w.first ≡ u.first
+  pub holding : w.holding ≡ u.holding
+  pub view : w.view ≡ record u.view { claims = w.view.claims; trail = u.view.trail ++ clears }
+  pub still : AreStill clears
+  pub none_scanned : scan_loads clears ≡ 0
+  pub hold : claim_of HOLD w.view ≡ claim_of HOLD u.view
+
+pub cleared_word : (l : List Claim) (c : ℕ) → (get_or (set l c (silent 0)) c (silent 0)).word ≡ 0
+cleared_word [] c = refl
+cleared_word (x ∷ l) zero = refl
+cleared_word (x ∷ l) (suc c) = cleared_word l c
+
+-- a claim was ended: its word is 0, and the others stay
+pub released_word : (which : Which) (u w : SeatData) → IsReleased which u w → (claim_of (claim_number which) w.view).word ≡ 0
+released_word which u w is = ap (λ (z : SeatData). (claim_of (claim_number which) z.view).word) is ∙ cleared_word u.view.claims (claim_number which)
+
+pub released_else : (which : Which) (u w : SeatData) (c : ℕ) → IsReleased which u w → c ≢ claim_number which → claim_of c w.view ≡ claim_of c u.view
+released_else which u w c is other = ap (λ (z : SeatData). claim_of c z.view) is ∙ get_or-set_other u.view.claims (claim_number which) c (silent 0) (silent 0) other
+
+-- the seat stays of its object, and no claim stands in the word
+pub released_ours : (which : Which) {shared : ObjectData} (u w : SeatData) → IsReleased which u w → IsOf shared u → IsOf shared w
+released_ours which u w is of = record { object = ap (λ (z : SeatData). z.object) is ∙ of.object; plan = ap (λ (z : SeatData). z.view.plan) is ∙ of.plan }
+
+none_stands : (l : List Claim) (c : ℕ) (y : Claim) → get_elem? (set l c (silent 0)) c ≡ some y → y.stands ≡ true → ⊥
+none_stands [] c y at on = absurd cc
+none_stands (x ∷ l) zero y at on = false≢true (ap (λ (z : Claim). z.stands) (some-injective (silent 0) y at) ∙ on)
+none_stands (x ∷ l) (suc c) y at on = none_stands l c y at on
+
+pub released_stands : (which : Which) (u w : SeatData) (n : ℕ) (y : Claim) → IsReleased which u w → get_elem? w.view.claims (claim_number which) ≡ some y → ¬ On y n
+released_stands which u w n y is at on =
+    none_stands u.view.claims (claim_number which) y (ap (λ (z : SeatData). get_elem? z.view.claims (claim_number which)) (sym is) ∙ at) on.on
+
+abbrev pub clearing : ℕ → SeatData → List Counted
+clearing c u = counted (ClaimClear c) 0 (length u.view.seen) ∷ []
+
+pub ends_one : (which : Which) (u w : SeatData) → HOLD ≢ claim_number which → IsReleased which u w → EndsBy (clearing (claim_number which) u) u w
+ends_one which u w other is =
+    let view : w.view ≡ cleared_view (claim_number which) u.view = ap (λ (z : SeatData). z.view) is in
+    record {
+      object = ap (λ (z : SeatData). z.object) is;
+      first = ap (λ (z : SeatData). z.first) is;
+      holding = ap (λ (z : SeatData). z.holding) is;
+      view = subst (λ (z : View). z ≡ record u.view { claims = z.claims; trail = u.view.trail ++ clearing (claim_number which) u }) (sym view) refl;
+      still = refl;
+      none_scanned = refl;
+      hold = released_else which u w HOLD is other;
+    }
+
+pub ends_none : (u w : SeatData) → w ≡ u → EndsBy [] u w
+ends_none u w is = subst (λ (z : SeatData). EndsBy [] u z) (sym is) (record {
+  object = refl;
+  first = refl;
+  holding = refl;
+  view = ap (λ (t : List Counted). record u.view { trail = t }) (sym (append-nil u.view.trail));
+  still = refl;
+  none_scanned = refl;
+  hold = refl;
+})
+
+pub ends_then : {a b : List Counted} {u v w : SeatData} → EndsBy a u v → EndsBy b v w → EndsBy (a ++ b) u w
+ends_then {a} {b} {u} {v} {w} p q =
+    let none = p.none_scanned in
+    let none_then = q.none_scanned in
+    record {
+      object = q.object ∙ p.object;
+      first = q.first ∙ p.first;
+      holding = q.holding ∙ p.holding;
+      view = q.view ∙ (ap (λ (z : View). record z { claims = w.view.claims; trail = z.trail ++ b }) p.view
+          ∙ ap (λ (t : List Counted). record u.view { claims = w.view.claims; trail = t }) (append_assoc u.view.trail a b));
+      still = still-append a b p.still q.still;
+      none_scanned = omega (arith, scan_loads-append a b);
+      hold = q.hold ∙ p.hold;
+    }
+
+-- Own and then Back
+abbrev pub EndsClaims : SeatData → SeatData → Type 0
+EndsClaims after final = final ≡ stepped (cleared_view BACK (cleared_view OWN after.view)) (unnoted BACK after)
+
+abbrev pub both_steps : SeatData → List Counted
+both_steps after = clearing OWN after ++ clearing BACK after
+
+module _ (after final : SeatData) (is : EndsClaims after final) where
+  abbrev between : SeatData
+  between = stepped (cleared_view OWN after.view) after
+
+  own_ended : IsReleased Own after between
+  own_ended = refl
+
+  pub ends_both : EndsBy (both_steps after) after final
+  ends_both = ends_then (ends_one Own after between (λ e. absurd (omega arith)) own_ended) (ends_one Back between final (λ e. absurd (omega arith)) is)
+
+  pub both_back : (claim_of BACK final.view).word ≡ 0
+  both_back = released_word Back between final is
+
+  pub both_own : (claim_of OWN final.view).word ≡ 0
+  both_own = ap (λ (y : Claim). y.word) (released_else Back between final OWN is (λ e. absurd (omega arith))) ∙ released_word Own after between own_ended
+
+  pub both_walk : claim_of WALK final.view ≡ claim_of WALK after.view
+  both_walk = released_else Back between final WALK is (λ e. absurd (omega arith)) ∙ released_else Own after between WALK own_ended (λ e. absurd (omega arith))
+
+-- Walk, where its word isn't 0
+pub record EndsWalk (u w : SeatData) : Type 0 where
+  pub clears : List Counted
+  pub ends : EndsBy clears u w
+  pub few : length clears ≤ 1
+  pub none : (claim_of WALK w.view).word ≡ 0
+  pub others : (c : ℕ) → c ≢ WALK → claim_of c w.view ≡ claim_of c u.view
+
+pub ends_walk : (u w : SeatData) → ClearsWalk u w → EndsWalk u w
+ends_walk u w (inl q) = record {
+  clears = [];
+  ends = ends_none u w q.0;
+  few = omega arith;
+  none = ap (λ (z : SeatData). (claim_of WALK z.view).word) q.0 ∙ q.1;
+  others = λ c other. ap (λ (z : SeatData). claim_of c z.view) q.0;
+}
+ends_walk u w (inr q) = record {
+  clears = clearing WALK u;
+  ends = ends_one Walk u w (λ e. absurd (omega arith)) q;
+  few = omega arith;
+  none = released_word Walk u w q;
+  others = λ c other. released_else Walk u w c q other;
+}

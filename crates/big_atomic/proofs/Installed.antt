@@ -1,0 +1,251 @@
+-- What an install leaves, and how its call is answered.
+use Rattle.std.proofs.Common.{◌≡◌, ◌≢◌, ◌∙◌, ℕ, ◌+◌, ◌<◌, ◌≤◌, true, List, [], ◌∷◌, ◌++◌, Option, Some, length, take, drop, refl, sym, ap, subst, arith}
+use Rattle.std.proofs.lemmas.List.{get_or-set_other}
+use Rattle.big_atomic.proofs.Answered.{goes_of}
+use Rattle.big_atomic.proofs.Claimed.{lost_longer}
+use Rattle.big_atomic.proofs.Ending.{EndsBy, EndsWalk, clearing, cleared_word, ends_one, ends_then, ends_walk, released_else, released_word}
+use Rattle.big_atomic.proofs.Goings.{calling_then, goes_still, goes_then}
+use Rattle.big_atomic.proofs.Paid.{exchanges-append, lost-append, scan_loads-append}
+use Rattle.big_atomic.proofs.Winning.{WonCall, all_steps, stand, won_lost, won_ready, won_records, won_scanned, won_tried}
+use Rattle.big_atomic.specs.Calling.{Calling, Goes, HasLost, OnlySteps}
+use Rattle.big_atomic.specs.Installing.{Exchanged, HasInstalled, HasMoved, HasNear, MayInstall}
+use Rattle.big_atomic.specs.Ready.{IsReady}
+use Rattle.big_atomic.specs.Turns.{exchanges, lost_steps, scan_loads}
+use Rattle.big_atomic.specs.declared.answers.Install.{Install as Answer}
+use Rattle.big_atomic.specs.declared.answers.Install.TheVariants.{Installed, Moved}
+use Rattle.hazard_claims.specs.Claiming.{IsAnnounced, IsReleased}
+use Rattle.hazard_claims.specs.Scanning.{ClearsWalk}
+use Rattle.hazard_claims.specs.declared.claims.Claim.TheVariants.{Back, Own}
+use Rattle.node_pool.specs.Pool.{IsAllPutBack}
+use Rattle.seat_history.specs.Contents.{Contents}
+use Rattle.seat_history.specs.Step.{held_after}
+use Rattle.seat_history.specs.declared.call.Call.{Call}
+use Rattle.step_rules.proofs.Chains.{head_has}
+use Rattle.step_rules.proofs.Fronts.{followed_link, length-followed, need_some}
+use Rattle.step_rules.specs.Bags.{times}
+use Rattle.step_rules.specs.Claims.{BACK, HOLD, OWN, On, WALK}
+use Rattle.step_rules.specs.History.{cell_of}
+use Rattle.step_rules.specs.Kinds.Backup.{MayExchange}
+use Rattle.step_rules.specs.Records.{dropped_count, edit_of, need, records_at, records_of, removes_of}
+use Rattle.step_rules.specs.SeatData.{IsOf, IsSeat, ObjectData, SeatData}
+use Rattle.step_rules.specs.Sound.{Sound}
+use Rattle.step_rules.specs.Steps.{DropsNoted, HoldsFront, MayClaim}
+use Rattle.step_rules.specs.Views.{announced, announced_view, claim_of, claimed_edit, claimed_pages, claimed_records, cleared_view, counted, followed, fresh_of, silent, stock}
+use Rattle.step_rules.specs.World.{has, nodes_of}
+use Rattle.step_rules.specs.declared.view.Claim.{Claim}
+use Rattle.step_rules.specs.declared.view.Counted.{Counted}
+use Rattle.step_rules.specs.declared.view.Held.{Held}
+use Rattle.step_rules.specs.declared.view.Kind.TheVariants.{ClaimStore}
+use Rattle.step_rules.specs.declared.view.View.{View}
+
+-- an own front begins with its node
+front_has : (n : ℕ) (call : Call) (v : View) → has (nodes_of (fresh_of n call v)) n ≡ true
+front_has n call v =
+    let count : ℕ = need (length (claimed_records v)) (claimed_edit call v) in
+    let some_there : 0 < count = need_some (length (claimed_records v)) (claimed_edit call v) in
+    head_has (fresh_of n call v) n (subst (λ i. 0 < i) (sym (length-followed v.own n count)) some_there) (followed_link v.own n count some_there)
+
+-- so it may be announced
+pub may_announce_front : (node : ℕ) (call : Call) (seat : SeatData) → HoldsFront node call seat → MayClaim OWN node seat
+may_announce_front node call seat front = record {
+  claim = omega arith;
+  own = λ _. front node ∙ front_has node call seat.view;
+  hold = λ (e : OWN ≡ HOLD). absurd (omega arith);
+}
+
+-- THE NODE IS ANNOUNCED
+module _ (node : ℕ) (u w : SeatData) (is : IsAnnounced Own node u w) where
+  abbrev pub announce_step : List Counted
+  announce_step = counted (ClaimStore OWN node) (node + 1) (length u.view.seen) ∷ []
+
+  announce_view : w.view ≡ announced_view OWN node u.view
+  announce_view = ap (λ (z : SeatData). z.view) is
+
+  pub announce_else : (c : ℕ) → c ≢ OWN → claim_of c w.view ≡ claim_of c u.view
+  announce_else c other = ap (λ (z : View). claim_of c z) announce_view ∙ get_or-set_other u.view.claims OWN c (announced OWN node u.view) (silent 0) other
+
+  pub announce_goes : Sound w.view → (k : ℕ) → Goes k (Some (length u.view.seen)) announce_step u w
+  announce_goes sound k = goes_still k announce_step u w (subst (λ (z : View). OnlySteps u.view z) (sym announce_view) refl)
+      (ap (λ (z : View). z.trail) announce_view) (ap (λ (z : View). z.seen) announce_view) refl
+      (ap (λ (z : SeatData). z.object) is) (ap (λ (z : SeatData). z.first) is) (ap stock announce_view) sound
+
+  pub announced_ours : {shared : ObjectData} → IsOf shared u → IsOf shared w
+  announced_ours of = record { object = ap (λ (z : SeatData). z.object) is ∙ of.object; plan = ap (λ (z : View). z.plan) announce_view ∙ of.plan }
+
+  -- what the exchange asks for stays
+  pages_same : claimed_pages w.view ≡ claimed_pages u.view
+  pages_same = ap (λ (y : Claim). y.pages) (announce_else BACK (λ e. absurd (omega arith)))
+
+  own_same : w.view.own ≡ u.view.own
+  own_same = ap (λ (z : View). z.own) announce_view
+
+  fresh_same : (call : Call) → fresh_of node call w.view ≡ fresh_of node call u.view
+  fresh_same call i = followed (own_same i) node (need (length (records_of (pages_same i))) (edit_of (records_of (pages_same i)) call))
+
+  pub front_announced : (call : Call) → HoldsFront node call u → HoldsFront node call w
+  front_announced call front m = ap (λ (z : SeatData). has z.holding m) is ∙ (front m ∙ sym (ap (λ (l : List Held). has (nodes_of l) m) (fresh_same call)))
+
+  pub noted_announced : (call : Call) → DropsNoted call u → DropsNoted call w
+  noted_announced call noted =
+      ap (λ (l : List Held). nodes_of (drop 1 (take (dropped_count (length (records_of l)) (edit_of (records_of l) call)) l))) pages_same ∙ (noted ∙ sym (ap (λ (z : SeatData). z.noted) is))
+
+  pub near_announced : {cell seen : ℕ} → HasNear cell seen u.view → HasNear cell seen w.view
+  near_announced {cell} {seen} h = subst (λ (z : View). HasNear cell seen z) (sym announce_view) (record { word = h.word; found = h.found; near = h.near; fell = h.fell })
+
+  pub may_announced : {cell seen : ℕ} {call : Call} → MayInstall cell seen node call u.view → MayExchange cell seen node call w.view
+  may_announced {cell} {seen} {call} may = subst (λ (z : View). MayExchange cell seen node call z) (sym announce_view) may
+
+-- THE EXCHANGE ANSWERED
+pub exchanged_ours : {shared : ObjectData} (cell seen node : ℕ) (call : Call) (u w : SeatData) (answer : Answer) → Exchanged cell seen node call answer u w → IsOf shared u → IsOf shared w
+exchanged_ours cell seen node call u w Installed e of = record {
+  object = ap (λ (z : SeatData). z.object) e.won.same ∙ (e.retried.goes.object ∙ of.object);
+  plan = ap (λ (z : View). z.plan) e.won.wins.after ∙ (ap (λ (z : View). z.plan) e.retried.view ∙ of.plan);
+}
+exchanged_ours cell seen node call u w (Moved word) e of = goes_of e.goes of
+
+-- every held node is free again
+pub has_moved : {cell seen word : ℕ} (node : ℕ) (before announced exchanged released after : SeatData) → IsAnnounced Own node before announced → Sound announced.view
+    → HasLost cell seen word announced exchanged → IsReleased Own exchanged released → IsAllPutBack released after → HasMoved cell seen node word before after
+has_moved node before announced exchanged released after is sound lost ends back =
+    let free = ap (λ (z : SeatData). z.free) ends ∙ (ap (λ (z : SeatData). z.free) lost.same ∙ ap (λ (z : SeatData). z.free) is) in
+    let held = ap (λ (z : SeatData). z.holding) ends ∙ (ap (λ (z : SeatData). z.holding) lost.same ∙ ap (λ (z : SeatData). z.holding) is) in
+    record {
+      announced = announced;
+      exchanged = exchanged;
+      announces = is;
+      sound = sound;
+      lost = lost;
+      holding = back.holding;
+      free = λ n. back.free n ∙ (λ i. times n (free i) + times n (held i));
+      ends = back.same ∙ ap (λ (z : SeatData). record z { free = after.free; holding = after.holding }) ends;
+    }
+
+-- WHAT A LOST INSTALL LEAVES
+-- between the claim of Own and its end the exchange found another node
+pub record LostInstall (cell : ℕ) (before after : SeatData) : Type 0 where
+  pub steps : List Counted
+  pub goes : Goes cell (Some (length before.view.seen)) steps before after
+  pub one_lost : lost_steps steps ≤ 1
+  pub some_tried : 0 < exchanges steps
+  pub none_scanned : scan_loads steps ≡ 0
+  pub longer : length before.view.seen < length after.view.seen
+  pub retired : after.view.retired ≡ before.view.retired
+  pub own : after.view.own ≡ before.view.own
+  pub own_none : (claim_of OWN after.view).word ≡ 0
+  pub others : (c : ℕ) → c ≢ OWN → claim_of c after.view ≡ claim_of c before.view
+
+module _ {cell seen node word : ℕ} {before after : SeatData} (m : HasMoved cell seen node word before after) (law : IsSeat after) where
+  abbrev u : SeatData
+  u = m.announced
+
+  abbrev w : SeatData
+  w = m.exchanged
+
+  after_view : after.view ≡ cleared_view OWN w.view
+  after_view = ap (λ (z : SeatData). z.view) m.ends
+
+  abbrev cleared : List Counted
+  cleared = clearing OWN w
+
+  clear_goes : Goes cell (Some (length w.view.seen)) cleared w after
+  clear_goes = goes_still cell cleared w after (subst (λ (z : View). OnlySteps w.view z) (sym after_view) refl)
+      (ap (λ (z : View). z.trail) after_view) (ap (λ (z : View). z.seen) after_view) refl
+      (ap (λ (z : SeatData). z.object) m.ends) (ap (λ (z : SeatData). z.first) m.ends) (ap stock after_view) law.sound
+
+  abbrev lost_all : List Counted
+  lost_all = announce_step node before u m.announces ++ (m.lost.tries ++ cleared)
+
+  pub lost_install : LostInstall cell before after
+  lost_install =
+      let one = m.lost.one_lost in
+      let tried = m.lost.some_tried in
+      let none = m.lost.none_scanned in
+      let first : List Counted = announce_step node before u m.announces in
+      let view = announce_view node before u m.announces in
+      let longer = lost_longer cell (length u.view.seen) w.view.plan w.view.seen m.lost.changed in
+      record {
+        steps = lost_all;
+        goes = goes_then (announce_goes node before u m.announces m.sound cell) (goes_then m.lost.goes clear_goes);
+        one_lost = omega (arith, lost-append first (m.lost.tries ++ cleared), lost-append m.lost.tries cleared);
+        some_tried = omega (arith, exchanges-append first (m.lost.tries ++ cleared), exchanges-append m.lost.tries cleared);
+        none_scanned = omega (arith, scan_loads-append first (m.lost.tries ++ cleared), scan_loads-append m.lost.tries cleared);
+        longer = omega (arith, ap (λ (z : View). length z.seen) view, ap (λ (z : View). length z.seen) after_view);
+        retired = ap (λ (z : View). z.retired) after_view ∙ (ap (λ (z : View). z.retired) m.lost.view ∙ ap (λ (z : View). z.retired) view);
+        own = ap (λ (z : View). z.own) after_view ∙ (ap (λ (z : View). z.own) m.lost.view ∙ ap (λ (z : View). z.own) view);
+        own_none = ap (λ (z : View). (claim_of OWN z).word) after_view ∙ cleared_word w.view.claims OWN;
+        others = λ c other. ap (λ (z : View). claim_of c z) after_view
+            ∙ (get_or-set_other w.view.claims OWN c (silent 0) (silent 0) other
+            ∙ (ap (λ (z : View). claim_of c z) m.lost.view ∙ announce_else node before u m.announces c other));
+      }
+
+-- HOW A CALL THAT INSTALLED IS ANSWERED
+-- it came to `now` by these steps, installed its chain, and then cleared Walk and Back
+pub record EndsChange (shared : ObjectData) (cell seen node : ℕ) (call : Call) (steps : List Counted) (look : ℕ) (before now after walked final : SeatData) : Type 0 where
+  pub ready : IsReady shared before
+  pub first : IsSeat before
+  pub left : 0 < before.view.changes
+  pub on : cell_of before.view.plan call ≡ cell
+  pub keeps : (c : Contents) (held : Option (List ℕ)) → held_after c held call ≡ held
+  pub spares : removes_of call ≡ 0
+  pub calling : Calling cell steps look before now
+  pub installed : HasInstalled cell seen node call now after
+  pub walk : ClearsWalk after walked
+  pub back : IsReleased Back walked final
+  pub last : IsSeat final
+
+module _ {shared : ObjectData} {cell seen node : ℕ} {call : Call} {steps : List Counted} {look : ℕ} {before now after walked final : SeatData}
+    (e : EndsChange shared cell seen node call steps look before now after walked final) where
+  abbrev h : HasInstalled cell seen node call now after
+  h = e.installed
+
+  abbrev walk_ends : EndsWalk after walked
+  walk_ends = ends_walk after walked e.walk
+
+  abbrev clears : List Counted
+  clears = clearing OWN h.exchanged ++ (walk_ends.clears ++ clearing BACK walked)
+
+  abbrev before_exchange : List Counted
+  before_exchange = steps ++ announce_step node now h.announced h.announces
+
+  ends : EndsBy clears h.exchanged final
+  ends = ends_then (ends_one Own h.exchanged after (λ q. absurd (omega arith)) h.ends)
+      (ends_then walk_ends.ends (ends_one Back walked final (λ q. absurd (omega arith)) e.back))
+
+  pub won_change : WonCall cell seen node call before_exchange clears look before h.announced h.exchanged final
+  won_change = record {
+    calling = calling_then e.calling (announce_goes node now h.announced h.announces h.sound cell) (announce_else node now h.announced h.announces HOLD (λ q. absurd (omega arith)));
+    won = h.won;
+    ended = ends;
+    first = e.first;
+    last = e.last;
+    idle = e.ready.idle;
+    left = e.left;
+    on = e.on;
+    keeps = e.keeps;
+    spares = e.spares;
+  }
+
+  -- the claim words but Hold's are 0
+  pub change_ready : IsReady shared final
+  change_ready = won_ready won_change shared e.ready
+      (released_word Back walked final e.back)
+      (ap (λ (y : Claim). y.word) (released_else Back walked final WALK e.back (λ q. absurd (omega arith))) ∙ walk_ends.none)
+      (ap (λ (y : Claim). y.word) (released_else Back walked final OWN e.back (λ q. absurd (omega arith)) ∙ walk_ends.others OWN (λ q. absurd (omega arith)))
+      ∙ released_word Own h.exchanged after h.ends)
+
+  -- what it spent
+  pub change_scanned : scan_loads (all_steps won_change) ≡ scan_loads steps
+  change_scanned = won_scanned won_change ∙ omega (arith, scan_loads-append steps (announce_step node now h.announced h.announces))
+
+  pub change_tried : 0 < exchanges (all_steps won_change)
+  change_tried = won_tried won_change
+
+  pub change_lost : lost_steps (all_steps won_change) ≡ lost_steps steps
+  change_lost = won_lost won_change ∙ omega (arith, lost-append steps (announce_step node now h.announced h.announces))
+
+  -- the cell had the claimed records at its place
+  pub change_records : {n : ℕ} → On (claim_of BACK now.view) n → (claim_of BACK now.view).cell ≡ cell
+      → records_at final.view.plan (take (stand won_change).place final.view.seen) cell ≡ claimed_records now.view
+  change_records {n} stands cell_is =
+      let same = announce_else node now h.announced h.announces BACK (λ q. absurd (omega arith)) in
+      won_records won_change (subst (λ (y : Claim). On y n) (sym same) stands) (ap (λ (y : Claim). y.cell) same ∙ cell_is) ∙ ap (λ (y : Claim). records_of y.pages) same
