@@ -1,18 +1,18 @@
 -- A find as far as it has come, and its end.
-use Rattle.std.proofs.Common.{◌≡◌, ◌≢◌, ◌∙◌, ℕ, ◌+◌, ◌*◌, ◌-◌, ◌/◌, ◌^◌, ◌<◌, List, [], ◌∷◌, ◌++◌, Option, Some, None, length, take, refl, sym, ap, subst, arith, inl, inr}
-use Rattle.std.proofs.lemmas.List.{get_or-set_other, get_or-set_same}
+use Rattle.std.proofs.Common.{◌≡◌, ◌≢◌, ◌∙◌, ℕ, ◌*◌, ◌-◌, ◌/◌, ◌<◌, List, [], ◌∷◌, ◌++◌, Option, Some, None, length, take, refl, sym, ap, subst, arith}
 use Rattle.std.specs.Option.{option_map_or}
 use Rattle.big_atomic.proofs.Answered.{MayEnd, answered_now, ended_back, goes_of, hold_stays, may_answer, ready_now, right_at}
-use Rattle.big_atomic.proofs.Claimed.{looks_then, lost_longer, stepped_then}
-use Rattle.big_atomic.proofs.Goings.{goes_still, goes_then, looked_then}
+use Rattle.big_atomic.proofs.Balance.{nodes_stay}
+use Rattle.big_atomic.proofs.Claimed.{looks_then, lost_longer}
+use Rattle.big_atomic.proofs.Goings.{goes_then, looked_then}
 use Rattle.big_atomic.proofs.Paid.{exchanges-append, scan_loads-append}
-use Rattle.big_atomic.specs.Calling.{Goes, HasClaim, HasClaimed, HasSeen, OnlySteps}
+use Rattle.big_atomic.specs.Calling.{Goes, HasClaim, HasClaimed, HasSeen}
 use Rattle.big_atomic.specs.Calls.{IsQuiet}
 use Rattle.big_atomic.specs.Ready.{IsReady}
-use Rattle.cache_hash.proofs.Walking.{Lost, Part, Way, come_way, moved_lost}
+use Rattle.cache_hash.proofs.Walking.{Lost, Part, Way, cleared_part, come_way, moved_lost, way_kept}
 use Rattle.cache_hash.specs.Calls.{IsFound, find_reply, value_at as value_here}
 use Rattle.cache_hash.specs.Finding.{Finding, KnowsValue}
-use Rattle.chain_links.proofs.Passing.{back_claim}
+use Rattle.chain_links.proofs.Passing.{back_claim, kept_back}
 use Rattle.chain_links.specs.Walking.{HasBack, HasCome, IsWalked}
 use Rattle.chain_links.specs.declared.answers.Walk.TheVariants.{Found, End, Moved}
 use Rattle.hazard_claims.specs.Scanning.{ClearsWalk}
@@ -24,18 +24,19 @@ use Rattle.seat_history.specs.declared.entry.Entry.{Entry}
 use Rattle.seat_history.specs.declared.key.KeyWords.{KeyWords}
 use Rattle.seat_history.specs.declared.reply.Reply.TheVariants.{Absent, Full, Val}
 use Rattle.step_rules.proofs.BucketOf.{key_there}
+use Rattle.step_rules.proofs.Notes.{only_stepped_then}
 use Rattle.step_rules.proofs.RecordsAt.{records_since}
 use Rattle.step_rules.proofs.RecordsTell.{value_at}
 use Rattle.step_rules.proofs.Trails.{longer_seen}
 use Rattle.step_rules.specs.Claims.{BACK, HOLD, On, OWN, WALK}
-use Rattle.step_rules.specs.History.{bucket_of, key_cell}
+use Rattle.step_rules.specs.History.{key_cell}
 use Rattle.step_rules.specs.Layout.{cells}
 use Rattle.step_rules.specs.Lawful.{IsReply, held_by}
 use Rattle.step_rules.specs.Records.{records_at, records_of, value_in}
 use Rattle.step_rules.specs.SeatData.{IsOf, IsSeat, ObjectData, SeatData}
 use Rattle.step_rules.specs.Sound.{Sound}
-use Rattle.step_rules.specs.Steps.{MayAnswer, stepped}
-use Rattle.step_rules.specs.Views.{claim_of, claimed_records, cleared_view, counted, number, silent, stock, stood_view}
+use Rattle.step_rules.specs.Steps.{MayAnswer, stepped, unnoted}
+use Rattle.step_rules.specs.Views.{claim_of, claimed_records, cleared_view, counted, number, stock, stood_view}
 use Rattle.step_rules.specs.declared.plan.Plan.{Plan}
 use Rattle.step_rules.specs.declared.view.Claim.{Claim}
 use Rattle.step_rules.specs.declared.view.Counted.{Counted}
@@ -63,13 +64,13 @@ finding_on cell b before mid now f p = record {
   goes = λ found. goes_then (f.goes found) p.goes;
   looked = looked_then (f.goes None) f.looked p.goes;
   looks = looks_then f.steps b f.looks p.looks;
-  same = stepped_then before mid now f.same p.same;
+  same = only_stepped_then before mid now f.same p.same;
   retired = p.retired ∙ f.retired;
   hold = p.hold ∙ f.hold;
   own = p.own ∙ f.own;
 }
 
-seen_part : (cell word : ℕ) (mid now : SeatData) → (s : HasSeen BACK cell word mid now) → Part cell s.steps mid now
+pub seen_part : (cell word : ℕ) (mid now : SeatData) → (s : HasSeen BACK cell word mid now) → Part cell s.steps mid now
 seen_part cell word mid now s = record {
   goes = s.goes (Some (length mid.view.seen));
   looks = s.looks;
@@ -82,80 +83,77 @@ seen_part cell word mid now s = record {
 pub finding_again : (cell word : ℕ) (before mid now : SeatData) → Finding cell before mid → HasSeen BACK cell word mid now → Finding cell before now
 finding_again cell word before mid now f s = finding_on cell s.steps before mid now f (seen_part cell word mid now s)
 
-pub has_back : (cell word : ℕ) (v : View) → HasClaim BACK cell word v → HasBack cell v
-has_back cell word v c = record { node = word / 2; stands = c.stands; cell_is = c.cell }
+pub has_back : (cell word : ℕ) (seat : SeatData) → HasClaim BACK cell word seat → HasBack cell seat.view
+has_back cell word seat c = record { node = word / 2; stands = c.stands; cell_is = c.cell }
 
 -- Back's node is that of the word
-same_node : (cell word node : ℕ) (v : View) → HasClaim BACK cell word v → On (claim_of BACK v) node → word / 2 ≡ 2 * node / 2
-same_node cell word node v c on = omega (arith, c.stands.at, on.at)
+same_node : (cell word node : ℕ) (seat : SeatData) → HasClaim BACK cell word seat → On (claim_of BACK seat.view) node → word / 2 ≡ 2 * node / 2
+same_node cell word node seat c on = omega (arith, c.stands.at, on.at)
 
--- the Walk claim's word is cleared
-pub finding_cleared : (cell : ℕ) (before mid now : SeatData) → Sound mid.view → Sound now.view → Finding cell before mid → ClearsWalk mid now
-    → Finding cell before now × ((claim_of WALK now.view).word ≡ 0) × (now.view.seen ≡ mid.view.seen)
-finding_cleared cell before mid now sound last f (inl q) =
-    (subst (λ (z : SeatData). Finding cell before z) (sym q.0) f, ap (λ (z : SeatData). (claim_of WALK z.view).word) q.0 ∙ q.1, ap (λ (z : SeatData). z.view.seen) q.0)
-finding_cleared cell before mid now sound last f (inr q) =
-    let step : List Counted = counted (ClaimClear WALK) 0 (length mid.view.seen) ∷ [] in
-    let view : now.view ≡ cleared_view WALK mid.view = ap (λ (z : SeatData). z.view) q in (
-      finding_on cell step before mid now f (record {
-        goes = goes_still cell step mid now (subst (λ (z : View). OnlySteps mid.view z) (sym view) refl) (ap (λ (z : View). z.trail) view) (ap (λ (z : View). z.seen) view) refl
-            (ap (λ (z : SeatData). z.object) q) (ap (λ (z : SeatData). z.first) q) (ap stock view) last;
-        looks = record { none_exchanged = refl; none_scanned = refl };
-        same = q ∙ ap (λ (z : SeatData). stepped z.view mid) (sym q);
-        retired = ap (λ (z : View). z.retired) view;
-        hold = ap (λ (z : View). claim_of HOLD z) view ∙ get_or-set_other mid.view.claims WALK HOLD (silent 0) (silent 0) (λ e. absurd (omega arith));
-        own = ap (λ (z : View). claim_of OWN z) view ∙ get_or-set_other mid.view.claims WALK OWN (silent 0) (silent 0) (λ e. absurd (omega arith));
-      }),
-      ap (λ (z : View). (claim_of WALK z).word) view
-          ∙ ap (λ (x : Claim). x.word) (get_or-set_same mid.view.claims WALK (silent 0) (silent 0) (omega (arith, sound.claims.four))),
-      ap (λ (z : View). z.seen) view,
-    )
-
--- what the claimed chain has for the key is the key's value at the end of what is seen
-chain_value : (cell : ℕ) (key : KeyWords) (seen : ℕ) (mid now : SeatData) (found : Option (List ℕ)) → HasBack cell mid.view
-    → (w : Way cell seen mid now) → cell ≡ key_cell now.view.plan (key_number key)
-    → value_in (claimed_records mid.view) (key_number key) ≡ found → value_here now.view (length now.view.seen) key ≡ found
-chain_value cell key seen mid now found b w cell_is value =
-    let n : ℕ = key_number key in
+-- the claimed chain has the cell's records at the end of what is seen
+pub way_records : (cell seen first : ℕ) (mid now : SeatData) → HasBack cell mid.view → Way cell seen first mid now → records_at now.view.plan now.view.seen cell ≡ claimed_records now.view
+way_records cell seen first mid now b w =
     let v : View = now.view in
-    let sound : Sound v = w.part.goes.sound in
     let x : Claim = claim_of BACK v in
-    let back : HasBack cell v = record { node = b.node; stands = subst (λ (y : Claim). On y b.node) (sym w.back) b.stands; cell_is = ap (λ (y : Claim). y.cell) w.back ∙ b.cell_is } in
-    let told = back_claim cell v sound back in
-    let records : records_at v.plan v.seen cell ≡ claimed_records mid.view =
+    let back : HasBack cell v = kept_back (way_kept w) b in
     records_since v.plan v.seen x.at cell w.calm
-    ∙ (ap (λ k. records_at v.plan (take x.at v.seen) k) (sym back.cell_is) ∙ (sym told.records ∙ ap (λ (y : Claim). records_of y.pages) w.back)) in
+    ∙ (ap (λ k. records_at v.plan (take x.at v.seen) k) (sym back.cell_is) ∙ sym (back_claim cell v w.part.goes.sound back).records)
+
+-- so what it has for the key is the key's value there
+pub value_of_records : (cell : ℕ) (key : KeyWords) (v : View) (found : Option (List ℕ)) → Sound v → cell ≡ key_cell v.plan (key_number key)
+    → records_at v.plan v.seen cell ≡ claimed_records v → value_in (claimed_records v) (key_number key) ≡ found → value_here v (length v.seen) key ≡ found
+value_of_records cell key v found sound cell_is records value =
+    let n : ℕ = key_number key in
     sym (value_at v.plan v.seen n (λ i e at. (sound.history.each i e at).there))
     ∙ (ap (λ k. value_in (records_at v.plan v.seen k) n) (sym cell_is) ∙ (ap (λ rs. value_in rs n) records ∙ value))
 
--- a walk answered: more was looked at, and the key's value is this
+-- a walk that came to its end: the claimed chain has this for the key, and so has the map at the end of what is seen
+pub record OnWay (cell word : ℕ) (key : KeyWords) (found : Option (List ℕ)) (mid now : SeatData) : Type 0 where
+  pub first : ℕ
+  pub near : word / 2 ≡ first / 2
+  pub way : Way cell first word mid now
+  pub records : records_at now.view.plan now.view.seen cell ≡ claimed_records now.view
+  pub chain : value_in (claimed_records now.view) (key_number key) ≡ found
+  pub value : value_here now.view (length now.view.seen) key ≡ found
+
+module _ (cell word : ℕ) (key : KeyWords) (mid now : SeatData) (claim : HasClaim BACK cell word mid) (cell_is : cell ≡ key_cell mid.view.plan (key_number key)) where
+  b : HasBack cell mid.view
+  b = has_back cell word mid claim
+
+  on_way : (n node : ℕ) (found : Option (List ℕ)) → On (claim_of BACK mid.view) node → HasCome cell (2 * node) n mid now → value_in (claimed_records mid.view) (key_number key) ≡ found
+      → OnWay cell word key found mid now
+  on_way n node found on come value =
+      let near = same_node cell word node mid claim on in
+      let w = come_way cell (2 * node) word n mid now claim near b come in
+      let records = way_records cell (2 * node) word mid now b w in
+      let chain = ap (λ (y : Claim). value_in (records_of y.pages) (key_number key)) w.back ∙ value in record {
+        first = 2 * node;
+        near = near;
+        way = w;
+        records = records;
+        chain = chain;
+        value = value_of_records cell key now.view found w.part.goes.sound (cell_is ∙ ap (λ (p : Plan). key_cell p (key_number key)) (sym (way_kept w).plan)) records chain;
+      }
+
+  pub way_found : (at : ℕ) (val : List ℕ) → IsWalked cell key (Found at val) mid now → OnWay cell word key (Some val) mid now
+  way_found at val k = on_way at k.node (Some val) k.back k.says.0 k.says.2
+
+  pub way_end : (count : ℕ) → IsWalked cell key (End count) mid now → OnWay cell word key None mid now
+  way_end count k = on_way (count - 1) k.node None k.back k.says.0 k.says.2
+
+  pub way_counts : (count : ℕ) → IsWalked cell key (End count) mid now → length (claimed_records now.view) ≡ count
+  way_counts count k = ap (λ (y : Claim). length (records_of y.pages)) (way_end count k).way.back ∙ k.says.1
+
+  pub way_lost : IsWalked cell key Moved mid now → Lost cell mid now
+  way_lost k = moved_lost cell (2 * k.node) word mid now claim (same_node cell word k.node mid claim k.back) b k.says
+
+-- a find's walk answered: more was looked at, and the key's value is this
 pub record Walked (cell : ℕ) (key : KeyWords) (found : Option (List ℕ)) (before now : SeatData) : Type 0 where
   pub finding : Finding cell before now
   pub value : value_here now.view (length now.view.seen) key ≡ found
 
-module _ (cell word : ℕ) (key : KeyWords) (before mid now : SeatData) (f : Finding cell before mid)
-    (claim : HasClaim BACK cell word mid.view) (cell_is : cell ≡ key_cell before.view.plan (key_number key)) where
-  b : HasBack cell mid.view
-  b = has_back cell word mid.view claim
-
-  walked : (n node : ℕ) (found : Option (List ℕ)) → On (claim_of BACK mid.view) node → HasCome cell (2 * node) n mid now → value_in (claimed_records mid.view) (key_number key) ≡ found
-      → Walked cell key found before now
-  walked n node found on come value =
-      let w = come_way cell (2 * node) word n mid now claim (same_node cell word node mid.view claim on) b come in
-      let g : Goes cell None f.steps before mid = f.goes None in
-      let plan : now.view.plan ≡ before.view.plan = ap (λ (z : View). z.plan) w.part.goes.only ∙ ap (λ (z : View). z.plan) g.only in record {
-        finding = finding_on cell w.steps before mid now f w.part;
-        value = chain_value cell key (2 * node) mid now found b w (cell_is ∙ ap (λ (p : Plan). key_cell p (key_number key)) (sym plan)) value;
-      }
-
-  pub walked_found : (at : ℕ) (val : List ℕ) → IsWalked cell key (Found at val) mid now → Walked cell key (Some val) before now
-  walked_found at val k = walked at k.node (Some val) k.back k.says.0 k.says.2
-
-  pub walked_end : (count : ℕ) → IsWalked cell key (End count) mid now → Walked cell key None before now
-  walked_end count k = walked (count - 1) k.node None k.back k.says.0 k.says.2
-
-  pub walked_moved : IsWalked cell key Moved mid now → Lost cell mid now
-  walked_moved k = moved_lost cell (2 * k.node) word mid now claim (same_node cell word k.node mid.view claim k.back) b k.says
+walked : {cell word : ℕ} {key : KeyWords} {found : Option (List ℕ)} {before mid now : SeatData} → Finding cell before mid → OnWay cell word key found mid now → Walked cell key found before now
+walked {cell} {before = before} {mid = mid} {now = now} f o = record { finding = finding_on cell o.way.steps before mid now f o.way.part; value = o.value }
 
 pub longer : (cell : ℕ) (mid now : SeatData) → Lost cell mid now → length mid.view.seen < length now.view.seen
 longer cell mid now l = lost_longer cell (length mid.view.seen) now.view.plan now.view.seen l.changed
@@ -212,13 +210,14 @@ module _ {key : KeyWords} {found : Option (List ℕ)} {before now : SeatData} (m
   may_find = may_answer find_ends
 
   abbrev FindStood : SeatData → Type 0
-  FindStood after = after ≡ stepped (stood_view (length now.view.seen) (Find key) (find_reply found) (cleared_view BACK now.view)) now
+  FindStood after = after ≡ stepped (stood_view (length now.view.seen) (Find key) (find_reply found) (cleared_view BACK now.view)) (unnoted BACK now)
 
   pub found_now : (after : SeatData) → FindStood after → IsSeat after → IsFound key found before after
   found_now after is last =
       let e = ended_back now goes.sound in
       let a = answered_now after find_ends e is last in record {
         answered = a.answered;
+        nodes = nodes_stay (λ rs. (refl, refl)) a.answered;
         there = ap (λ (s : Stand). value_here after.view s.place key) a.stand_is ∙ (ap (λ (z : SeatData). value_here z.view (length now.view.seen) key) is ∙ m.value);
         quiet = subst (λ (l : List Counted). IsQuiet l before after) (sym a.steps_are) (record {
           free = ap (λ (z : SeatData). z.free) is ∙ ap (λ (z : SeatData). z.free) f.same;
@@ -245,7 +244,7 @@ pub record Claimed (shared : ObjectData) (key : KeyWords) (cell : ℕ) (before n
   pub begun : Begun shared key cell before
   pub finding : Finding cell before now
   pub word : ℕ
-  pub claim : HasClaim BACK cell word now.view
+  pub claim : HasClaim BACK cell word now
 
 pub of_finding : {shared : ObjectData} {cell : ℕ} {before now : SeatData} → IsReady shared before → Finding cell before now → IsOf shared now
 of_finding ready f = goes_of (f.goes None) ready.ours
@@ -258,20 +257,23 @@ module _ {shared : ObjectData} {key : KeyWords} {cell : ℕ} {before mid : SeatD
   own_cell : cell ≡ key_cell before.view.plan (key_number key)
   own_cell = c.begun.cell_is ∙ ap (λ (p : Plan). key_cell p (key_number key)) (sym c.begun.ready.ours.plan)
 
+  cell_now : cell ≡ key_cell mid.view.plan (key_number key)
+  cell_now = let g : Goes cell None c.finding.steps before mid = c.finding.goes None in own_cell ∙ ap (λ (z : View). key_cell z.plan (key_number key)) (sym g.only)
+
   pub inside : cell < cells shared.plan
   inside = subst (λ j. j < cells shared.plan) (sym c.begun.cell_is) (key_there shared.plan (key_number key) c.begun.some)
 
   pub back_there : HasBack cell mid.view
-  back_there = has_back cell c.word mid.view c.claim
+  back_there = has_back cell c.word mid c.claim
 
   pub finds_value : (at : ℕ) (val : List ℕ) (now : SeatData) → IsWalked cell key (Found at val) mid now → Walked cell key (Some val) before now
-  finds_value at val now w = walked_found cell c.word key before mid now c.finding c.claim own_cell at val w
+  finds_value at val now w = walked c.finding (way_found cell c.word key mid now c.claim cell_now at val w)
 
   pub finds_none : (count : ℕ) (now : SeatData) → IsWalked cell key (End count) mid now → Walked cell key None before now
-  finds_none count now w = walked_end cell c.word key before mid now c.finding c.claim own_cell count w
+  finds_none count now w = walked c.finding (way_end cell c.word key mid now c.claim cell_now count w)
 
   pub loses : (now : SeatData) → IsWalked cell key Moved mid now → Lost cell mid now
-  loses now w = walked_moved cell c.word key before mid now c.finding c.claim own_cell w
+  loses now w = way_lost cell c.word key mid now c.claim cell_now w
 
   pub lost_finding : (now : SeatData) → Lost cell mid now → Finding cell before now
   lost_finding now l = finding_on cell l.steps before mid now c.finding l.part
@@ -302,33 +304,18 @@ pub may_end : {shared : ObjectData} {key : KeyWords} {found : Option (List ℕ)}
     → Sound cleared.view → MayFind key found before cleared
 may_end {key = key} {before = before} {now = now} cleared k clears sound =
     let g : Goes (key_cell before.view.plan (key_number key)) None k.finding.steps before now = k.finding.goes None in
-    let f = finding_cleared (key_cell before.view.plan (key_number key)) before now cleared g.sound sound k.finding clears in record {
+    let c = cleared_part (key_cell before.view.plan (key_number key)) now cleared (ap (λ (z : SeatData). z.fresh) k.finding.same) g.sound sound clears in record {
       first = k.law;
       idle = k.ready.idle;
       some = subst (λ (p : Plan). 0 < p.buckets) (sym k.ready.ours.plan) k.some;
-      finding = f.0;
-      value = ap (λ (l : List Entry). (state_at l (length l)).values (key_number key)) f.2 ∙ k.value;
-      walk = f.1;
+      finding = finding_on (key_cell before.view.plan (key_number key)) c.steps before now cleared k.finding c.part;
+      value = ap (λ (l : List Entry). (state_at l (length l)).values (key_number key)) c.seen ∙ k.value;
+      walk = c.none;
     }
 
 pub of_may : {shared : ObjectData} {key : KeyWords} {found : Option (List ℕ)} {before now : SeatData} → IsReady shared before → MayFind key found before now → IsOf shared now
 of_may ready m = of_finding ready m.finding
 
--- the cell as the code counts it
-cell_counted : (key : KeyWords) (all p : Plan) (index : ℕ) → p ≡ all → index ≡ bucket_of p.buckets (key_number key) → p.registers + index ≡ key_cell all (key_number key)
-cell_counted key all p index same is = ap (λ n. p.registers + n) is ∙ ap (λ (q : Plan). key_cell q (key_number key)) same
-
-pub begins_inside : (key : KeyWords) (all p : Plan) (index : ℕ) → p ≡ all → index ≡ bucket_of p.buckets (key_number key) → 0 < all.buckets → p.registers + index < cells all
-begins_inside key all p index same is some = subst (λ j. j < cells all) (sym (cell_counted key all p index same is)) (key_there all (key_number key) some)
-
-pub begins : {shared : ObjectData} {before : SeatData} (key : KeyWords) (p : Plan) (index : ℕ) → IsReady shared before → IsSeat before → 0 < shared.plan.buckets → p ≡ shared.plan
-    → index ≡ bucket_of p.buckets (key_number key) → Begun shared key (p.registers + index) before
-begins {shared = shared} key p index ready law some same is = record { ready = ready; law = law; some = some; cell_is = cell_counted key shared.plan p index same is }
-
-pub begins_low : (key : KeyWords) (all p : Plan) (index : ℕ) (v : View) → Sound v → v.plan ≡ all → p ≡ all → index ≡ bucket_of p.buckets (key_number key) → 0 < all.buckets
-    → p.registers + index < 2 ^ 32
-begins_low key all p index v sound of same is some =
-    let low = begins_inside key all p index same is some in
-    let r = sound.plan.registers in
-    let b = sound.plan.buckets in
-    let both = ap (λ (q : Plan). cells q) of in omega arith
+pub begins : {shared : ObjectData} {before : SeatData} (key : KeyWords) (cell : ℕ) → IsReady shared before → IsSeat before → 0 < shared.plan.buckets → cell ≡ key_cell shared.plan (key_number key)
+    → Begun shared key cell before
+begins key cell ready law some is = record { ready = ready; law = law; some = some; cell_is = is }

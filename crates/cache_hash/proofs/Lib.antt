@@ -1,2 +1,6 @@
 mod Finding
+mod Progress
+mod PuttingIn
+mod Told
+mod Turning
 mod Walking

@@ -1,37 +1,39 @@
 -- The steps of a walk as those of a call.
-use Rattle.std.proofs.Common.{◌≡◌, ◌∙◌, ℕ, ◌+◌, ◌/◌, suc, zero, not, eq-eqb, List, [], ◌∷◌, ◌++◌, Some, length, drop, refl, sym, ap, subst, arith}
+use Rattle.std.proofs.Common.{◌≡◌, ◌∙◌, ℕ, ◌+◌, ◌/◌, ◌≤◌, suc, zero, false, not, eq-eqb, List, [], ◌∷◌, ◌++◌, Some, length, drop, refl, sym, ap, subst, arith, inl, inr}
 use Rattle.std.proofs.Math.ListN.{drop_of_length-le}
-use Rattle.std.proofs.lemmas.List.{get_or-set_other}
-use Rattle.big_atomic.proofs.Claimed.{loads_still, loads_unscanned, looks_then, none_later, read_goes, stepped_then}
-use Rattle.big_atomic.proofs.Goings.{LooksAt, goes_look, goes_lost, goes_still, goes_then, looks_at, moved_since}
+use Rattle.std.proofs.lemmas.List.{get_or-set_other, get_or-set_same}
+use Rattle.big_atomic.proofs.Claimed.{loads_still, loads_unscanned, looks_then, none_later, read_goes}
+use Rattle.big_atomic.proofs.Goings.{LooksAt, goes_look, goes_lost, goes_none, goes_still, goes_then, looks_at, moved_since}
 use Rattle.big_atomic.proofs.Paid.{still_exchanges}
 use Rattle.big_atomic.specs.Calling.{AreLooks, Goes, HasClaim, HasFound, OnlySteps}
-use Rattle.chain_links.proofs.Passing.{announced_kept, announced_names, claim_at_low, come_sound, passed_kept, read_kept, rechecked_kept}
+use Rattle.chain_links.proofs.Passing.{Kept, announced_kept, announced_names, back_claim, claim_at_low, come_sound, kept_back, passed_kept, read_kept, rechecked_kept}
 use Rattle.chain_links.specs.Walking.{HasBack, HasCome, HasMoved, HasPassed}
 use Rattle.hazard_claims.specs.Claiming.{IsAnnounced}
 use Rattle.hazard_claims.specs.declared.claims.Claim.TheVariants.{Walk}
+use Rattle.hazard_claims.specs.Scanning.{ClearsWalk}
 use Rattle.node_pool.specs.Pool.{IsRead, load_steps}
 use Rattle.seat_history.specs.declared.entry.Entry.{Entry}
+use Rattle.step_rules.proofs.Notes.{only_stepped, only_stepped_then}
 use Rattle.step_rules.proofs.Trails.{longer_seen}
 use Rattle.step_rules.specs.Claims.{BACK, HOLD, OWN, WALK}
 use Rattle.step_rules.specs.History.{NoneOn}
 use Rattle.step_rules.specs.Kinds.Walking.{Walks}
 use Rattle.step_rules.specs.SeatData.{SeatData}
 use Rattle.step_rules.specs.Sound.{Sound}
-use Rattle.step_rules.specs.Steps.{Sees, stepped}
-use Rattle.step_rules.specs.Views.{announced, announced_view, claim_of, counted, look_at, silent, stock, walked_claim}
+use Rattle.step_rules.specs.Steps.{OnlyStepped, Sees, stepped}
+use Rattle.step_rules.specs.Views.{announced, announced_view, claim_of, cleared_view, counted, look_at, silent, stock, walked_claim}
 use Rattle.step_rules.specs.declared.plan.Plan.{Plan}
 use Rattle.step_rules.specs.declared.view.Claim.{Claim}
 use Rattle.step_rules.specs.declared.view.Counted.{Counted}
 use Rattle.step_rules.specs.declared.view.Held.{Held}
-use Rattle.step_rules.specs.declared.view.Kind.TheVariants.{ClaimStore, Recheck}
+use Rattle.step_rules.specs.declared.view.Kind.TheVariants.{ClaimClear, ClaimStore, Recheck}
 use Rattle.step_rules.specs.declared.view.View.{View}
 
--- looks and loads that leave the seat's lists and its claims on Own and Hold
+-- looks and loads that leave the seat's lists, but for the links noted, and its claims on Own and Hold
 pub record Part (cell : ℕ) (steps : List Counted) (old now : SeatData) : Type 0 where
   pub goes : Goes cell (Some (length old.view.seen)) steps old now
   pub looks : AreLooks steps
-  pub same : now ≡ stepped now.view old
+  pub same : OnlyStepped old now
   pub retired : now.view.retired ≡ old.view.retired
   pub hold : claim_of HOLD now.view ≡ claim_of HOLD old.view
   pub own : claim_of OWN now.view ≡ claim_of OWN old.view
@@ -40,7 +42,7 @@ pub part_then : (cell : ℕ) (a b : List Counted) (u v w : SeatData) → Part ce
 part_then cell a b u v w p q = record {
   goes = goes_then p.goes q.goes;
   looks = looks_then a b p.looks q.looks;
-  same = stepped_then u v w p.same q.same;
+  same = only_stepped_then u v w p.same q.same;
   retired = q.retired ∙ p.retired;
   hold = q.hold ∙ p.hold;
   own = q.own ∙ p.own;
@@ -54,7 +56,7 @@ read_part cell node words old now r sound =
         none_exchanged = still_exchanges steps (loads_still node 0 (length old.view.seen) words);
         none_scanned = loads_unscanned node 0 (length old.view.seen) words;
       };
-      same = r.same ∙ ap (λ (z : SeatData). stepped z.view old) (sym r.same);
+      same = only_stepped old now r.same;
       retired = ap (λ (z : SeatData). z.view.retired) r.same;
       hold = ap (λ (z : SeatData). claim_of HOLD z.view) r.same;
       own = ap (λ (z : SeatData). claim_of OWN z.view) r.same;
@@ -69,7 +71,7 @@ announce_part cell link old now a sound =
       goes = goes_still cell (announce_step link old ∷ []) old now (subst (λ (z : View). OnlySteps old.view z) (sym view) refl)
           (ap (λ (z : View). z.trail) view) (ap (λ (z : View). z.seen) view) refl (ap (λ (z : SeatData). z.object) a) (ap (λ (z : SeatData). z.first) a) (ap stock view) sound;
       looks = record { none_exchanged = refl; none_scanned = refl };
-      same = a ∙ ap (λ (z : SeatData). stepped z.view old) (sym a);
+      same = only_stepped old now a;
       retired = ap (λ (z : View). z.retired) view;
       hold = ap (λ (z : View). claim_of HOLD z) view ∙ get_or-set_other old.view.claims WALK HOLD (announced WALK link old.view) (silent 0) (λ e. absurd (omega arith));
       own = ap (λ (z : View). claim_of OWN z) view ∙ get_or-set_other old.view.claims WALK OWN (announced WALK link old.view) (silent 0) (λ e. absurd (omega arith));
@@ -102,7 +104,7 @@ module _ (cell seen found link : ℕ) (old now : SeatData) (near : found / 2 ≡
   recheck_part = record {
     goes = goes_look (Some (length old.view.seen)) look (ap not (eq-eqb (found / 2) (seen / 2) near));
     looks = record { none_exchanged = refl; none_scanned = refl };
-    same = same;
+    same = only_stepped old now same;
     retired = ap (λ (z : View). z.retired) walks.after;
     hold = ap (λ (z : View). claim_of HOLD z) walks.after ∙ get_or-set_other old.view.claims WALK HOLD (walked_claim link cell (length walks.log) old.view) (silent 0) (λ e. absurd (omega arith));
     own = ap (λ (z : View). claim_of OWN z) walks.after ∙ get_or-set_other old.view.claims WALK OWN (walked_claim link cell (length walks.log) old.view) (silent 0) (λ e. absurd (omega arith));
@@ -111,37 +113,58 @@ module _ (cell seen found link : ℕ) (old now : SeatData) (near : found / 2 ≡
   recheck_found : HasFound cell found now.view
   recheck_found = ap (λ (z : View). z.look) walks.after ∙ ap (λ (s : List Entry). Some (look_at cell found (length s))) (sym seen_is)
 
--- a walk so far: its steps, the word found last, which has Back's node, and no entry on the cell since the Back claim began to stand
-pub record Way (cell seen : ℕ) (old now : SeatData) : Type 0 where
+-- the word found last stays so after an announcement
+still_found : {cell word : ℕ} (link : ℕ) (old now : SeatData) → IsAnnounced Walk link old now → HasFound cell word old.view → HasFound cell word now.view
+still_found {cell} {word} link old now a found = ap (λ (z : SeatData). z.view.look) a ∙ (found ∙ ap (λ (z : SeatData). Some (look_at cell word (length z.view.seen))) (sym a))
+
+-- a recheck that found Back's node found the mark at most cleared
+walk_falls : (cell seen found word link : ℕ) (old now : SeatData) → Walks cell seen found link old.view now.view → Sound old.view → HasBack cell old.view → HasFound cell word old.view → found ≤ word
+walk_falls cell seen found word link old now walks sound b last =
+    let back = claim_of BACK old.view in
+    let calm : NoneOn old.view.plan cell (drop back.at walks.log) = walks.calm back (claim_at_low BACK old.view sound (omega arith)) in
+    walks.falls (look_at cell word (length old.view.seen)) last refl
+    (none_later old.view.plan cell back.at old.view.seen walks.log (back_claim cell old.view sound b).began (walks.rest, walks.seen) calm)
+
+-- a walk so far: its steps, the word found last, which has Back's node, its mark at most cleared since the first word, and no entry on the cell
+-- since the Back claim began to stand
+pub record Way (cell seen first : ℕ) (old now : SeatData) : Type 0 where
   pub steps : List Counted
   pub part : Part cell steps old now
   pub back : claim_of BACK now.view ≡ claim_of BACK old.view
+  pub noted : now.noted ≡ old.noted
   pub word : ℕ
   pub found : HasFound cell word now.view
   pub near : word / 2 ≡ seen / 2
+  pub fell : word ≤ first
   pub calm : NoneOn now.view.plan cell (drop (claim_of BACK now.view).at now.view.seen)
 
-way_first : (cell seen word node : ℕ) (words : List ℕ) (old now : SeatData) → HasClaim BACK cell word old.view
-    → word / 2 ≡ seen / 2 → IsRead node words old now → Sound now.view → Way cell seen old now
+pub way_kept : {cell seen first : ℕ} {old now : SeatData} → Way cell seen first old now → Kept old now
+way_kept w = record { back = w.back; noted = w.noted; object = w.part.goes.object; plan = ap (λ (z : View). z.plan) w.part.goes.only }
+
+way_first : (cell seen word node : ℕ) (words : List ℕ) (old now : SeatData) → HasClaim BACK cell word old
+    → word / 2 ≡ seen / 2 → IsRead node words old now → Sound now.view → Way cell seen word old now
 way_first cell seen word node words old now claim near r sound = record {
   steps = load_steps node 0 words (length old.view.seen);
   part = read_part cell node words old now r sound;
   back = ap (λ (z : SeatData). claim_of BACK z.view) r.same;
+  noted = ap (λ (z : SeatData). z.noted) r.same;
   word = word;
   found = ap (λ (z : SeatData). z.view.look) r.same ∙ (claim.found ∙ ap (λ (z : SeatData). Some (look_at cell word (length z.view.seen))) (sym r.same));
   near = near;
+  fell = omega arith;
   calm = subst (λ (l : List Entry). NoneOn now.view.plan cell l) (sym (ap (λ (z : SeatData). drop (claim_of BACK z.view).at z.view.seen) r.same
       ∙ (ap (λ n. drop n old.view.seen) claim.now_at ∙ drop_of_length-le old.view.seen (omega arith)))) tt;
 }
 
 -- one more link
-way_on : (cell seen : ℕ) (page : Held) (old mid now : SeatData) → Way cell seen old mid → Sound mid.view → HasBack cell old.view → HasPassed cell seen page mid now → Way cell seen old now
-way_on cell seen page old mid now w sound b h =
+way_on : (cell seen first : ℕ) (page : Held) (old mid now : SeatData) → Way cell seen first old mid → Sound mid.view → HasBack cell old.view → HasPassed cell seen page mid now
+    → Way cell seen first old now
+way_on cell seen first page old mid now w sound b h =
     let naming = announced_names page.node mid h.announced sound h.announces in
     let r = h.rechecks in
     let walks : Walks cell seen h.found page.node h.announced.view h.rechecked.view = r.answers.1 page.node naming in
     let near : h.found / 2 ≡ seen / 2 = r.answers.0 in
-    let first = announce_part cell page.node mid h.announced h.announces h.announced_sound in
+    let announcing = announce_part cell page.node mid h.announced h.announces h.announced_sound in
     let second = recheck_part cell seen h.found page.node h.announced h.rechecked near walks r.same h.announced_sound h.rechecked_sound in
     let third = read_part cell page.node page.words h.rechecked now h.reads h.sound in
     let a : List Counted = announce_step page.node mid ∷ [] in
@@ -157,19 +180,22 @@ way_on cell seen page old mid now w sound b h =
     let plan_is : now.view.plan ≡ h.announced.view.plan = (read_kept h.reads).plan ∙ k_rechecked.plan in record {
       steps = w.steps ++ (a ++ (c ++ d));
       part = part_then cell w.steps (a ++ (c ++ d)) old mid now w.part
-          (part_then cell a (c ++ d) mid h.announced now first (part_then cell c d h.announced h.rechecked now second third));
+          (part_then cell a (c ++ d) mid h.announced now announcing (part_then cell c d h.announced h.rechecked now second third));
       back = k.back ∙ w.back;
+      noted = k.noted ∙ w.noted;
       word = h.found;
       found = ap (λ (z : SeatData). z.view.look) h.reads.same ∙ (recheck_found cell seen h.found page.node h.announced h.rechecked near walks r.same h.announced_sound h.rechecked_sound
           ∙ ap (λ (z : SeatData). Some (look_at cell h.found (length z.view.seen))) (sym h.reads.same));
       near = near;
+      fell = let fell = walk_falls cell seen h.found w.word page.node h.announced h.rechecked walks h.announced_sound (kept_back k_announced (kept_back (way_kept w) b)) (still_found page.node mid h.announced h.announces w.found) in
+          let fell_before = w.fell in omega arith;
       calm = subst (λ (z : Plan × Claim × List Entry). NoneOn z.0 cell (drop z.1.at z.2)) (λ i. (sym plan_is i, sym back_is i, sym seen_is i)) calm;
     }
 
-pub come_way : (cell seen word n : ℕ) (old now : SeatData) → HasClaim BACK cell word old.view → word / 2 ≡ seen / 2 → HasBack cell old.view → HasCome cell seen n old now → Way cell seen old now
+pub come_way : (cell seen word n : ℕ) (old now : SeatData) → HasClaim BACK cell word old → word / 2 ≡ seen / 2 → HasBack cell old.view → HasCome cell seen n old now → Way cell seen word old now
 come_way cell seen word zero old now claim near b h = way_first cell seen word h.0.node h.0.words old now claim near h.2 h.3
 come_way cell seen word (suc n) old now claim near b h =
-    way_on cell seen h.1 old h.0 now (come_way cell seen word n old h.0 claim near b h.2) (come_sound cell seen n old h.0 h.2) b h.4
+    way_on cell seen word h.1 old h.0 now (come_way cell seen word n old h.0 claim near b h.2) (come_sound cell seen n old h.0 h.2) b h.4
 
 -- a walk that was lost: since it began the history has an entry on the cell
 pub record Lost (cell : ℕ) (old now : SeatData) : Type 0 where
@@ -177,7 +203,7 @@ pub record Lost (cell : ℕ) (old now : SeatData) : Type 0 where
   pub part : Part cell steps old now
   pub changed : ¬ NoneOn now.view.plan cell (drop (length old.view.seen) now.view.seen)
 
-pub moved_lost : (cell seen word : ℕ) (old now : SeatData) → HasClaim BACK cell word old.view → word / 2 ≡ seen / 2 → HasBack cell old.view → HasMoved cell seen old now → Lost cell old now
+pub moved_lost : (cell seen word : ℕ) (old now : SeatData) → HasClaim BACK cell word old → word / 2 ≡ seen / 2 → HasBack cell old.view → HasMoved cell seen old now → Lost cell old now
 moved_lost cell seen word old now claim near b m =
     let s = m.strayed in
     let w = come_way cell seen word m.passed old m.mid claim near b m.come in
@@ -185,14 +211,13 @@ moved_lost cell seen word old now claim near b m =
     let c : List Counted = counted (Recheck WALK cell seen) s.found (length now.view.seen) ∷ [] in
     let first = announce_part cell m.page.node m.mid s.announced s.announces s.announced_sound in
     let sees : Sees (Recheck WALK cell seen) cell s.found s.announced now = record { looks = s.rechecks.answers.1; same = s.rechecks.same } in
-    let found : HasFound cell w.word s.announced.view = ap (λ (z : SeatData). z.view.look) s.announces
-    ∙ (w.found ∙ ap (λ (z : SeatData). Some (look_at cell w.word (length z.view.seen))) (sym s.announces)) in
+    let found : HasFound cell w.word s.announced.view = still_found m.page.node m.mid s.announced s.announces w.found in
     let moved : ¬ NoneOn s.announced.view.plan cell (drop (length s.announced.view.seen) now.view.seen) = moved_since sees found (λ e. s.rechecks.answers.0 (e ∙ w.near)) in
     let view = sees.looks.after in
     let second : Part cell c s.announced now = record {
       goes = goes_lost (looks_at (eq-eqb cell cell refl) sees s.announced_sound s.sound) moved;
       looks = record { none_exchanged = refl; none_scanned = refl };
-      same = s.rechecks.same;
+      same = only_stepped s.announced now s.rechecks.same;
       retired = ap (λ (z : View). z.retired) view;
       hold = ap (λ (z : View). claim_of HOLD z) view;
       own = ap (λ (z : View). claim_of OWN z) view;
@@ -203,4 +228,46 @@ moved_lost cell seen word old now claim near b m =
       part = whole;
       changed = λ none. moved (subst (λ (p : Plan). NoneOn p cell (drop (length s.announced.view.seen) now.view.seen)) (ap (λ (z : View). z.plan) view)
           (none_later now.view.plan cell (length old.view.seen) s.announced.view.seen now.view.seen (longer_seen old.view.seen s.announced.view.seen before.seen) (second.goes.seen) none));
+    }
+
+-- THE WALK CLAIM ENDS, where its word isn't 0
+pub record Cleared (cell : ℕ) (mid now : SeatData) : Type 0 where
+  pub steps : List Counted
+  pub part : Part cell steps mid now
+  pub none : (claim_of WALK now.view).word ≡ 0
+  pub seen : now.view.seen ≡ mid.view.seen
+  pub noted : now.noted ≡ mid.noted
+
+pub cleared_part : (cell : ℕ) (mid now : SeatData) → mid.fresh ≡ false → Sound mid.view → Sound now.view → ClearsWalk mid now → Cleared cell mid now
+cleared_part cell mid now used sound last (inl q) = subst (λ (z : SeatData). Cleared cell mid z) (sym q.0) (record {
+  steps = [];
+  part = record {
+    goes = goes_none cell mid sound;
+    looks = record { none_exchanged = refl; none_scanned = refl };
+    same = λ i. record mid { fresh = used i };
+    retired = refl;
+    hold = refl;
+    own = refl;
+  };
+  none = q.1;
+  seen = refl;
+  noted = refl;
+})
+cleared_part cell mid now used sound last (inr q) =
+    let step : List Counted = counted (ClaimClear WALK) 0 (length mid.view.seen) ∷ [] in
+    let view : now.view ≡ cleared_view WALK mid.view = ap (λ (z : SeatData). z.view) q in record {
+      steps = step;
+      part = record {
+        goes = goes_still cell step mid now (subst (λ (z : View). OnlySteps mid.view z) (sym view) refl) (ap (λ (z : View). z.trail) view) (ap (λ (z : View). z.seen) view) refl
+            (ap (λ (z : SeatData). z.object) q) (ap (λ (z : SeatData). z.first) q) (ap stock view) last;
+        looks = record { none_exchanged = refl; none_scanned = refl };
+        same = only_stepped mid now q;
+        retired = ap (λ (z : View). z.retired) view;
+        hold = ap (λ (z : View). claim_of HOLD z) view ∙ get_or-set_other mid.view.claims WALK HOLD (silent 0) (silent 0) (λ e. absurd (omega arith));
+        own = ap (λ (z : View). claim_of OWN z) view ∙ get_or-set_other mid.view.claims WALK OWN (silent 0) (silent 0) (λ e. absurd (omega arith));
+      };
+      none = ap (λ (z : View). (claim_of WALK z).word) view
+          ∙ ap (λ (x : Claim). x.word) (get_or-set_same mid.view.claims WALK (silent 0) (silent 0) (omega (arith, sound.claims.four)));
+      seen = ap (λ (z : View). z.seen) view;
+      noted = ap (λ (z : SeatData). z.noted) q;
     }

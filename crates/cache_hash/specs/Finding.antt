@@ -8,7 +8,7 @@ use Rattle.seat_history.specs.declared.key.KeyWords.{KeyWords}
 use Rattle.step_rules.specs.Claims.{HOLD, OWN}
 use Rattle.step_rules.specs.History.{key_cell}
 use Rattle.step_rules.specs.SeatData.{IsSeat, ObjectData, SeatData}
-use Rattle.step_rules.specs.Steps.{stepped}
+use Rattle.step_rules.specs.Steps.{OnlyStepped}
 use Rattle.step_rules.specs.Views.{claim_of}
 use Rattle.step_rules.specs.declared.view.Counted.{Counted}
 
@@ -19,7 +19,7 @@ pub record Finding (cell : ℕ) (before now : SeatData) : Type 0 where
   pub goes : (found : Option ℕ) → Goes cell found steps before now
   pub looked : IsLooked cell steps look before now
   pub looks : AreLooks steps
-  pub same : now ≡ stepped now.view before
+  pub same : OnlyStepped before now
   pub retired : now.view.retired ≡ before.view.retired
   pub hold : claim_of HOLD now.view ≡ claim_of HOLD before.view
   pub own : claim_of OWN now.view ≡ claim_of OWN before.view

@@ -5,11 +5,12 @@ ghost use Rattle.cache_hash.specs.Calls.{IsFound, find_reply};
 ghost use Rattle.cache_hash.specs.Finding.{KnowsValue};
 ghost use Rattle.step_rules.specs.SeatData.{SeatData};
 
+use crate::cells::bucket_cell;
 use big_atomic::{answer_now, claim_node};
 use chain_links::{Walk, walk};
 use hazard_claims::{Claim, clear_walk};
 use seat_history::{Call, KeyWords, Reply, ValWords};
-use step_rules::{Seat, Shared, bucket_index};
+use step_rules::{Seat, Shared};
 
 /// The value of a key; None where it has none. Each further turn has a change of another caller to the
 /// key's bucket.
@@ -20,8 +21,7 @@ pub fn find(shared: &Shared, seat: &mut Seat, key: KeyWords) -> Option<ValWords>
     ensures found { IsFound key result seat.old seat.new }
 {
     seat.law();
-    let plan = shared.plan();
-    let cell = plan.registers + bucket_index(plan.buckets, key);
+    let cell = bucket_cell(shared, seat, key);
     claim_node(shared, seat, Claim::Back, cell);
     seat.law();
     'turns: loop {

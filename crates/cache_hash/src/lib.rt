@@ -1,10 +1,16 @@
 //! A hash table: a chain of records for each bucket.
 #![tactic(auto)]
 
+mod answers;
+mod cells;
 mod finds;
+mod inserts;
+mod turns;
 
+pub use answers::Insert;
 pub use finds::find;
-// All that a user needs beside the call.
+pub use inserts::insert;
+// All that a user needs beside the calls.
 pub use big_atomic::{
     Building, Closed, Counts, NoMemory, Plan, Seat, Shared, TooLarge, build, join_all, split_all,
 };

@@ -5,7 +5,7 @@ use Rattle.seat_history.specs.declared.call.Call.TheVariants.{Find}
 use Rattle.seat_history.specs.declared.reply.Reply.{Reply}
 use Rattle.step_rules.specs.Claims.{BACK}
 use Rattle.step_rules.specs.SeatData.{SeatData}
-use Rattle.step_rules.specs.Steps.{stepped}
+use Rattle.step_rules.specs.Steps.{stepped, unnoted}
 use Rattle.step_rules.specs.Views.{cleared_view, stood_view}
 use Rattle.cache_hash.proofs.finds.answer_find.Goals as goal
 
@@ -23,7 +23,7 @@ returns c = record {
   ends = λ before k.
       let u : SeatData = c.clear_walk.new.seat in
       let m = may_end u k c.clear_walk.ensures.cleared c.law.ensures.sound in
-      let stood : c.answer_now.new.seat ≡ stepped (stood_view (length u.view.seen) (Find c.args.key) (find_reply c.args.found) (cleared_view BACK u.view)) u =
-      c.answer_now.ensures.seat ∙ ap (λ (r : Reply). stepped (stood_view (length u.view.seen) (Find c.args.key) r (cleared_view BACK u.view)) u) c.reply_of.ensures in
+      let stood : c.answer_now.new.seat ≡ stepped (stood_view (length u.view.seen) (Find c.args.key) (find_reply c.args.found) (cleared_view BACK u.view)) (unnoted BACK u) =
+      c.answer_now.ensures.seat ∙ ap (λ (r : Reply). stepped (stood_view (length u.view.seen) (Find c.args.key) r (cleared_view BACK u.view)) (unnoted BACK u)) c.reply_of.ensures in
       (find_ready m c.args.shared.now c.answer_now.new.seat k.ready stood, found_now m c.answer_now.new.seat stood c.answer_now.ensures.law);
 }

@@ -1,21 +1,10 @@
-use Rattle.std.proofs.Common.{◌+◌, arith}
-use Rattle.cache_hash.proofs.Finding.{back_there, begins, begins_inside, begins_low, claimed_again, claimed_first, fewer, finds_none, finds_value, inside}
+use Rattle.cache_hash.proofs.Finding.{back_there, begins, claimed_again, claimed_first, fewer, finds_none, finds_value, inside}
 use Rattle.cache_hash.proofs.Finding.{knows, loses, lost_finding, of_finding}
 use Rattle.cache_hash.proofs.finds.find.Goals as goal
 
-pub overflow_add-cell : goal.overflow_add-cell
-overflow_add-cell c = omega (
-  arith,
-  begins_low c.args.key c.args.shared.now.plan c.plan-plan.result c.bucket_index.result c.args.seat.now.view c.law.ensures.sound c.requires.ready.ours.plan c.plan-plan.ensures
-      c.bucket_index.ensures.index c.requires.some,
-)
-
-pub claim_node-requires-clause-there : goal.claim_node-requires-clause-there
-claim_node-requires-clause-there c = begins_inside c.args.key c.args.shared.now.plan c.plan-plan.result c.bucket_index.result c.plan-plan.ensures c.bucket_index.ensures.index c.requires.some
-
 pub turns-init : goal.turns-init
-turns-init c = claimed_first c.args.shared.now c.args.key (c.plan-plan.result.registers + c.bucket_index.result) c.claim_node.result c.args.seat.now c.claim_node.new.seat
-    (begins c.args.key c.plan-plan.result c.bucket_index.result c.requires.ready c.law.ensures c.requires.some c.plan-plan.ensures c.bucket_index.ensures.index) c.claim_node.ensures.claimed
+turns-init c = claimed_first c.args.shared.now c.args.key c.bucket_cell-cell.result c.claim_node.result c.args.seat.now c.claim_node.new.seat
+    (begins c.args.key c.bucket_cell-cell.result c.requires.ready c.law.ensures c.requires.some c.bucket_cell-cell.ensures.cell) c.claim_node.ensures.claimed
 
 pub walk-requires-clause-ours : goal.walk-requires-clause-ours
 walk-requires-clause-ours c = of_finding c.requires.ready c.turns.invariant.finding

@@ -1,0 +1,168 @@
+-- Further steps of an insert.
+use Rattle.std.proofs.Common.{◌≡◌, ◌∙◌, ℕ, ◌*◌, ◌<◌, ◌≤◌, Bool, true, false, List, [], ◌++◌, Some, length, take, filter, append_assoc, sym, ap, subst, arith}
+use Rattle.std.proofs.lemmas.Bool.{false≢true}
+use Rattle.std.proofs.lemmas.List.{take-append-le}
+use Rattle.big_atomic.proofs.Answered.{goes_of}
+use Rattle.big_atomic.proofs.Goings.{goes_then, held_stays, looked_then}
+use Rattle.big_atomic.proofs.Paid.{exchanges-append, scan_loads-append}
+use Rattle.big_atomic.proofs.Scanning.{own_words, own_words_later, scan_all, scan_goes, scan_view, scanned_now}
+use Rattle.big_atomic.proofs.Shortage.{hold_word}
+use Rattle.big_atomic.specs.Calling.{Goes}
+use Rattle.big_atomic.specs.Turns.{exchanges, scan_loads}
+use Rattle.cache_hash.proofs.Walking.{Part}
+use Rattle.cache_hash.specs.Calls.{NeedsNodes, WantsNodes}
+use Rattle.cache_hash.specs.Inserting.{Inserting, Scans}
+use Rattle.hazard_claims.specs.Scanning.{IsScan, names}
+use Rattle.seat_history.proofs.Histories.{state_at-append}
+use Rattle.seat_history.specs.Contents.{Contents}
+use Rattle.seat_history.specs.History.{state_at}
+use Rattle.seat_history.specs.Key.{key_number}
+use Rattle.seat_history.specs.declared.call.Call.TheVariants.{Insert}
+use Rattle.seat_history.specs.declared.entry.Entry.{Entry}
+use Rattle.seat_history.specs.declared.key.KeyWords.{KeyWords}
+use Rattle.step_rules.proofs.Trails.{longer_seen}
+use Rattle.step_rules.specs.Claims.{BACK, HOLD, OWN}
+use Rattle.step_rules.specs.History.{GoesOn, cell_of}
+use Rattle.step_rules.specs.Lawful.{held_by}
+use Rattle.step_rules.specs.Order.{Needs}
+use Rattle.step_rules.specs.Records.{records_at}
+use Rattle.step_rules.specs.SeatData.{IsOf, IsSeat, ObjectData, SeatData}
+use Rattle.step_rules.specs.Sound.{Sound}
+use Rattle.step_rules.specs.Steps.{HasScanned, scan_kinds}
+use Rattle.step_rules.specs.Views.{claim_of, number}
+use Rattle.step_rules.specs.declared.layout.TheConstants.{CLAIMS}
+use Rattle.step_rules.specs.declared.plan.Plan.{Plan}
+use Rattle.step_rules.specs.declared.view.Claim.{Claim}
+use Rattle.step_rules.specs.declared.view.Counted.{Counted}
+use Rattle.step_rules.specs.declared.view.View.{View}
+
+-- WHAT WAS NEEDED stays so as more is seen
+pub needs_more : {key : KeyWords} {val : List ℕ} {place need : ℕ} {v : View} (w : View) → place ≤ length v.seen → GoesOn v.seen w.seen → w.plan ≡ v.plan → NeedsNodes key val place need v → NeedsNodes key val place need w
+needs_more {key} {val} {place} {need} {v} w within on plan n =
+    let front : take place w.seen ≡ take place v.seen = ap (take place) on.1 ∙ take-append-le place v.seen on.0 within in
+    let contents = ap (λ (l : List Entry). state_at l place) on.1 ∙ state_at-append v.seen on.0 place within in record {
+      absent = ap (λ (c : Contents). c.values (key_number key)) contents ∙ n.absent;
+      needs = subst (λ (rs : List (List ℕ)). Needs rs (Insert key val) need) (λ i. records_at (sym plan i) (sym front i) (cell_of (sym plan i) (Insert key val))) n.needs;
+    }
+
+pub wants_more : {key : KeyWords} {val : List ℕ} {look : ℕ} {before : SeatData} {v : View} (w : View) → GoesOn v.seen w.seen → w.plan ≡ v.plan → WantsNodes key val look before v → WantsNodes key val look before w
+wants_more {v = v} w on plan n =
+    let within = n.within in
+    let longer = longer_seen v.seen w.seen on in
+    record { place = n.place; late = n.late; within = omega arith; need = n.need; needs = needs_more w n.within on plan n.needs; few = n.few }
+
+-- a scan stays among the steps
+abbrev pub scanned_more : {a : List Counted} {v : View} (w : View) (b : List Counted) → number w ≡ number v → held_by w.seen (number w) w.stands ≡ held_by v.seen (number v) v.stands
+    → claim_of HOLD w ≡ claim_of HOLD v → w.plan ≡ v.plan → HasScanned v a → HasScanned w (a ++ b)
+scanned_more w b least held hold plan s = record {
+  front = s.front;
+  loads = s.loads;
+  back = s.back ++ b;
+  whole = ap (λ (l : List Counted). l ++ b) s.whole ∙ (append_assoc s.front (s.loads ++ s.back) b ∙ ap (λ (l : List Counted). s.front ++ l) (append_assoc s.loads s.back b));
+  kinds = s.kinds ∙ ap (λ (p : Plan). scan_kinds 0 (CLAIMS * p.seats)) (sym plan);
+  own_words = own_words_later least held hold s.own_words;
+}
+
+-- MORE STEPS of the call, none of a scan, after which the seat holds no node
+pub record Onward (cell : ℕ) (b : List Counted) (mid now : SeatData) : Type 0 where
+  pub goes : Goes cell (Some (length mid.view.seen)) b mid now
+  pub idle : mid.holding ≡ [] → now.holding ≡ []
+  pub used : now.fresh ≡ false
+  pub hold : claim_of HOLD now.view ≡ claim_of HOLD mid.view
+  pub own : (claim_of OWN mid.view).word ≡ 0 → (claim_of OWN now.view).word ≡ 0
+  pub retired : now.view.retired ≡ mid.view.retired
+  pub none_scanned : scan_loads b ≡ 0
+  pub free : exchanges b ≡ 0 → now.free ≡ mid.free
+
+pub scans_on : {cell : ℕ} {b : List Counted} {mid now : SeatData} (scanned : Bool) (key : KeyWords) (val : List ℕ) (steps : List Counted) (look : ℕ) (before : SeatData) → Sound mid.view → Onward cell b mid now
+    → Scans scanned key val steps look before mid → Scans scanned key val (steps ++ b) look before now
+scans_on {b = b} false key val steps look before sound o s =
+    let none = o.none_scanned in
+    let none_before = s.none in record { none = omega (arith, scan_loads-append steps b); retired = o.retired ∙ s.retired }
+scans_on {b = b} {now = now} true key val steps look before sound o s =
+    let none = o.none_scanned in
+    let all = s.all in
+    let few = s.few in record {
+      scan = scanned_more now.view b (ap (λ (z : View). number z) o.goes.only) (held_stays sound o.goes) o.hold (ap (λ (z : View). z.plan) o.goes.only) s.scan;
+      all = omega (arith, scan_loads-append steps b);
+      retired = o.retired ∙ s.retired;
+      few = omega (arith, ap (length {A = ℕ}) o.retired);
+      want = wants_more now.view o.goes.seen (ap (λ (z : View). z.plan) o.goes.only) s.want;
+    }
+
+module _ {shared : ObjectData} {key : KeyWords} {val : List ℕ} {cell : ℕ} {scanned : Bool} {before mid : SeatData} (i : Inserting shared key val cell scanned before mid) where
+  abbrev pub going_on : {b : List Counted} {now : SeatData} → Onward cell b mid now → Inserting shared key val cell scanned before now
+  going_on {b} {now} o = record {
+    begins = i.begins;
+    steps = i.steps ++ b;
+    look = i.look;
+    goes = goes_then i.goes o.goes;
+    looked = looked_then i.goes i.looked o.goes;
+    idle = o.idle i.idle;
+    used = o.used;
+    hold = o.hold ∙ i.hold;
+    own = o.own i.own;
+    scans = scans_on scanned key val i.steps i.look before i.goes.sound o i.scans;
+    untouched = λ none none_tried. let both = exchanges-append i.steps b in o.free (omega arith) ∙ i.untouched none (omega arith);
+  }
+
+  pub going_of : IsOf shared mid
+  going_of = goes_of i.goes i.begins.ready.ours
+
+-- looks and loads
+pub part_onward : {cell : ℕ} {b : List Counted} {mid now : SeatData} → Part cell b mid now → Onward cell b mid now
+part_onward p = record {
+  goes = p.goes;
+  idle = λ idle. ap (λ (z : SeatData). z.holding) p.same ∙ idle;
+  used = ap (λ (z : SeatData). z.fresh) p.same;
+  hold = p.hold;
+  own = λ none. ap (λ (x : Claim). x.word) p.own ∙ none;
+  retired = p.retired;
+  none_scanned = p.looks.none_scanned;
+  free = λ _. ap (λ (z : SeatData). z.free) p.same;
+}
+
+-- A SCAN, for want of nodes
+module _ {shared : ObjectData} {key : KeyWords} {val : List ℕ} {cell : ℕ} {before mid now : SeatData} (i : Inserting shared key val cell false before mid) (s : IsScan mid now)
+    (law : IsSeat mid) (last : IsSeat now) where
+  -- no node was retired so far, so as many are free as at first
+  free_still : length mid.free ≡ length before.free
+  free_still =
+      let stock = i.goes.stock in
+      let long = law.long in
+      let first = i.begins.law.long in
+      omega (arith, ap (length {A = ℕ}) i.idle, ap (length {A = ℕ}) i.begins.ready.idle, ap (length {A = ℕ}) i.scans.retired)
+
+  pub after_scan : {need : ℕ} → (claim_of BACK mid.view).stands ≡ true → NeedsNodes key val (length mid.view.seen) need mid.view → length mid.free < need
+      → Inserting shared key val cell true before now
+  after_scan {need} back needs few =
+      let view = scan_view s law last in
+      let g : Goes cell (Some (length mid.view.seen)) (s.clear ++ s.loads) mid now = scan_goes s law last cell in
+      let seats : mid.view.plan.seats ≡ before.view.plan.seats = ap (λ (z : View). z.plan.seats) i.goes.only in
+      let none = i.scans.none in
+      let few_retired = s.few in record {
+        begins = i.begins;
+        steps = i.steps ++ (s.clear ++ s.loads);
+        look = i.look;
+        goes = goes_then i.goes g;
+        looked = looked_then i.goes i.looked g;
+        idle = ap (λ (z : SeatData). z.holding) s.same ∙ i.idle;
+        used = ap (λ (z : SeatData). z.fresh) s.same;
+        hold = s.claims HOLD (λ e. absurd (omega arith)) ∙ i.hold;
+        own = ap (λ (x : Claim). x.word) (s.claims OWN (λ e. absurd (omega arith))) ∙ i.own;
+        scans = record {
+          scan = scanned_now s law last i.steps (own_words s law last back i.own (hold_word i.begins.ready i.begins.law.sound i.goes i.hold));
+          all = omega (arith, scan_loads-append i.steps (s.clear ++ s.loads), scan_all s law last);
+          retired = s.retired ∙ ap (filter (λ n. names n s.loads)) i.scans.retired;
+          few = omega arith;
+          want = wants_more now.view g.seen (ap (λ (z : View). z.plan) g.only) (record {
+            place = length mid.view.seen;
+            late = i.looked.upto;
+            within = omega arith;
+            need = need;
+            needs = needs;
+            few = omega (arith, free_still);
+          });
+        };
+        untouched = λ e. absurd (false≢true (sym e));
+      }

@@ -1,0 +1,27 @@
+use Rattle.std.proofs.Common.{◌∙◌, ap, length}
+use Rattle.cache_hash.proofs.Progress.{going_of}
+use Rattle.cache_hash.proofs.Told.{knows_cleared, may_tell, told}
+use Rattle.seat_history.specs.declared.call.Call.TheVariants.{Insert}
+use Rattle.seat_history.specs.declared.reply.Reply.{Reply}
+use Rattle.step_rules.specs.Claims.{BACK}
+use Rattle.step_rules.specs.SeatData.{SeatData}
+use Rattle.step_rules.specs.Steps.{stepped, unnoted}
+use Rattle.step_rules.specs.Views.{cleared_view, stood_view}
+use Rattle.cache_hash.proofs.inserts.answer_insert.Goals as goal
+
+pub clear_walk-requires : goal.clear_walk-requires
+clear_walk-requires c = record { ours = going_of c.requires.past.1.going }
+
+pub answer_now-requires : goal.answer_now-requires
+answer_now-requires c =
+    let k = knows_cleared c.requires.past.1 c.clear_walk.ensures.cleared c.law.ensures in
+    record { ours = going_of k.knows.going; may = rw c.reply_of.ensures (may_tell k) }
+
+pub returns : goal.returns
+returns c = record {
+  ends = λ before k.
+      let r = knows_cleared k c.clear_walk.ensures.cleared c.law.ensures in
+      let u : SeatData = c.clear_walk.new.seat in
+      told r (c.answer_now.ensures.seat
+      ∙ ap (λ (reply : Reply). stepped (stood_view (length u.view.seen) (Insert c.args.pair.key c.args.pair.val) reply (cleared_view BACK u.view)) (unnoted BACK u)) c.reply_of.ensures) c.answer_now.ensures.law;
+}
