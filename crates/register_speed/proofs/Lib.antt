@@ -1,2 +1,3 @@
-pub mod Counts
-pub mod Going
+pub mod Coming
+pub mod Runs
+pub mod Seats

@@ -1,75 +1,34 @@
-//! Threads that store and load.
-ghost use Rattle.std.specs.Prelude.{◌≡◌, ◌+◌, ◌≤◌, All, IfOk, IfSome};
-ghost use Rattle.big_atomic.specs.Ready.{IsReady};
-ghost use Rattle.big_atomic.specs.Seats.{IsUnused};
-ghost use Rattle.register_speed.specs.Counting.{HasCalled, HasCounted, HasGone, IsAsked, IsEnding};
-ghost use Rattle.step_rules.specs.Layout.{IsPlan};
-ghost use Rattle.step_rules.specs.SeatData.{IsOf};
+//! Threads that call one object, and what the closed object holds.
+ghost use Rattle.std.specs.Prelude.{◌≡◌, ◌++◌, All, IfOk, IfSome, true};
+ghost use Rattle.big_atomic.specs.Seats.{IsUnused, all_numbers};
+ghost use Rattle.register_speed.specs.Counting.{AreLed, Becomes, HasRun, IsEnding, seats_of};
+ghost use Rattle.step_rules.specs.Views.{count_up};
 
-use big_atomic::{Closed, Plan, Seat, Shared, Stored, WIDTH, build, load, split_all, store};
+use crate::asked::Asked;
+use crate::caller::{Ran, make_calls};
+use big_atomic::{Closed, Seat, Shared, build, split_all};
 use std::alloc::{AllocError, Global};
-use std::thread;
 use std::thread::Threads;
+use std::time::{Clock, Duration, Instant};
+use std::{io, thread};
 
-/// What is to be done: so many calls by each seat of the plan's.
-#[derive(Clone, Copy, Drop)]
-pub(crate) struct Asked {
-    pub(crate) plan: Plan,
-    pub(crate) calls: u32,
-    pub(crate) stores: bool,
-    ghost fits: { IsPlan plan },
-    ghost flat: { plan.buckets ≡ 0 },
-}
-
-impl Asked {
-    /// None where a number is out of its range.
-    pub(crate) fn of(numbers: [u32; 4], stores: bool) -> Option<Asked>
-        ensures asked { IfSome result (λ asked. IsAsked numbers stores asked.plan asked.calls asked.stores) }
-    {
-        let [seats, registers, calls, share] = numbers;
-        if seats == 0 || seats > 64 || registers == 0 || registers > 64 {
-            return None;
-        }
-        if share == 0 || share > 1 << 22 {
-            return None;
-        }
-        let plan = Plan {
-            seats,
-            share,
-            registers,
-            buckets: 0,
-            changes: u64::from(calls),
-            removes: 0,
-        };
-        Some(Asked {
-            plan,
-            calls,
-            stores,
-        })
-    }
-}
-
-// A seat, and how many of its calls were made.
-#[derive(Drop)]
-struct Ran {
-    seat: Seat,
-    done: u64,
-}
-
-/// The closed object, and how many calls were made, with Done at a store.
+/// The closed object: how many calls stand, how many of them were made, and how many changed it.
 #[derive(Drop)]
 pub(crate) struct Outcome {
     pub(crate) closed: Closed,
+    pub(crate) calls: u64,
     pub(crate) done: u64,
+    pub(crate) changes: u64,
 }
 
-/// All seats make their calls, and the object is closed. So many of its stands were made.
-pub(crate) fn run<R: Threads + Sync>(
+/// All seats make their calls, and the object is closed. Besides, the time of the calls alone. None
+/// where memory has no room for the object, or the plan has too many nodes.
+pub(crate) fn run<R: Threads + Clock + Sync>(
     rt: &R,
     alloc: Global,
     asked: &Asked,
-) -> Result<Option<Outcome>, AllocError>
-    ensures { IfOk result (λ told. IfSome told (λ outcome. IsEnding asked.now.plan asked.now.stores outcome.closed outcome.done)) }
+) -> io::Result<Option<(Outcome, Duration)>>
+    ensures { IfOk result (λ told. IfSome told (λ ended. IsEnding asked.now ended.0.closed ended.0.calls ended.0.done ended.0.changes)) }
 {
     let Ok((shared, seat)) = build(alloc, &asked.plan) else {
         return Ok(None);
@@ -77,95 +36,82 @@ pub(crate) fn run<R: Threads + Sync>(
     let Ok(seats) = split_all(alloc, &shared, seat) else {
         return Ok(None);
     };
-    let ran = thread::map_vec(rt, seats, &|seat| calls(&shared, seat, asked))?;
-    let Some(ran) = gathered(&shared, ran, asked.stores) else {
-        return Ok(None);
-    };
-    Ok(finish(shared, ran, asked.stores))
+    let start = Instant::now(rt)?;
+    let all = make_all(rt, &shared, seats, asked)?;
+    let took = start.elapsed(rt)?;
+    let ran = join(&shared, all, asked);
+    Ok(Some((finish(shared, ran, asked), took)))
 }
 
-// Closes the object, where all seats are in this one, and it is quiet.
-fn finish(shared: Shared, ran: Ran, stores: bool) -> Option<Outcome>
-    requires ours { IsOf shared ran.seat }
-    requires counted { HasCounted stores ran.seat.view.stands ran.done }
-    ensures { IfSome result (λ outcome. IsEnding shared.plan stores outcome.closed outcome.done) }
+// Makes the calls of each seat in a thread of its own.
+fn make_all<R: Threads + Sync>(
+    rt: &R,
+    shared: &Shared,
+    seats: Vec<Seat>,
+    asked: &Asked,
+) -> Result<Vec<Ran>, AllocError>
+    requires unused { All (IsUnused shared.now) seats.items }
+    requires plan { shared.now.plan ≡ asked.now.plan }
+    requires led { AreLed seats.items }
+    ensures ran { IfOk result (λ all. All (λ one. HasRun shared.now asked.now one.seat one.done) all.items) }
+    ensures numbers { IfOk result (λ all. all_numbers (seats_of all.items) ≡ all_numbers seats.items) }
+    ensures led { IfOk result (λ all. AreLed (seats_of all.items)) }
 {
-    let Ran { seat, done } = ran;
-    if seat.numbers() != shared.plan().seats || !seat.quiet() {
-        return None;
-    }
-    let closed = shared.close(seat);
-    Some(Outcome { closed, done })
+    let work = |seat: Seat| -> Ran
+        requires unused { IsUnused shared.now seat }
+        requires plan { shared.now.plan ≡ asked.now.plan }
+        ensures { Becomes shared.entry.now asked.entry.now seat result }
+    { make_calls(shared, seat, asked) };
+    thread::map_vec(rt, seats, &work)
 }
 
 // Joins all seats into the first one, and adds up their calls.
-fn gathered(shared: &Shared, ran: Vec<Ran>, stores: bool) -> Option<Ran>
-    requires ours { All (λ one. IsOf shared.now one.seat × HasCounted stores one.seat.view.stands one.done) ran.items }
-    ensures ours { IfSome result (λ one. IsOf shared.now one.seat) }
-    ensures counted { IfSome result (λ one. HasCounted stores one.seat.view.stands one.done) }
+fn join(shared: &Shared, all: Vec<Ran>, asked: &Asked) -> Ran
+    requires ran { All (λ one. HasRun shared.now asked.now one.seat one.done) all.items }
+    requires led { AreLed (seats_of all.items) }
+    ensures ran { HasRun shared.now asked.now result.seat result.done }
+    ensures numbers { result.seat.view.numbers ≡ all_numbers (seats_of all.items) }
 {
-    let mut ran = ran.into_iter();
-    let mut first = ran.next()?;
-    for other in ran {
-        gather(shared, &mut first, other, stores);
+    let mut all = all.into_iter();
+    let Some(mut first) = all.next() else {
+        unreachable!()
+    };
+    for other in all {
+        take_in(shared, &mut first, other, asked);
     }
-    Some(first)
+    first
 }
 
-// Takes a seat into the first one, and its calls, where both are quiet.
-fn gather(shared: &Shared, first: &mut Ran, other: Ran, stores: bool)
-    requires ours { IsOf shared.now first.old.seat }
-    requires counted { HasCounted stores first.old.seat.view.stands first.old.done }
-    requires theirs { IsOf shared.now other.seat × HasCounted stores other.seat.view.stands other.done }
-    ensures ours { IsOf shared.now first.new.seat }
-    ensures counted { HasCounted stores first.new.seat.view.stands first.new.done }
+// Takes a seat into the first one, and its calls.
+fn take_in(shared: &Shared, first: &mut Ran, other: Ran, asked: &Asked)
+    requires ran { HasRun shared.now asked.now first.old.seat first.old.done }
+    requires first { first.old.seat.first ≡ true }
+    requires theirs { HasRun shared.now asked.now other.seat other.done }
+    ensures ran { HasRun shared.now asked.now first.new.seat first.new.done }
+    ensures first { first.new.seat.first ≡ true }
+    ensures numbers { first.new.seat.view.numbers ≡ first.old.seat.view.numbers ++ other.seat.view.numbers }
 {
     let Ran { seat, done } = other;
-    if first.seat.is_first() && first.seat.quiet() && seat.quiet() {
-        shared.join(&mut first.seat, seat);
-        first.done = first.done.wrapping_add(done);
-    }
+    shared.join(&mut first.seat, seat);
+    first.done = first.done.wrapping_add(done);
 }
 
-// Makes the calls of one seat.
-fn calls(shared: &Shared, mut seat: Seat, asked: &Asked) -> Ran
-    requires unused { IsUnused shared.now seat }
-    ensures ours { IsOf shared.now result.seat }
-    ensures counted { HasCounted asked.now.stores result.seat.view.stands result.done }
-    ensures gone { HasGone shared.now.plan asked.now.calls asked.now.calls result.seat }
+// Closes the object with the seat that has all numbers.
+fn finish(shared: Shared, ran: Ran, asked: &Asked) -> Outcome
+    requires plan { shared.plan ≡ asked.now.plan }
+    requires ran { HasRun shared asked.now ran.seat ran.done }
+    requires whole { ran.seat.view.numbers ≡ count_up 0 asked.now.plan.seats }
+    ensures { IsEnding asked.now result.closed result.calls result.done result.changes }
 {
-    let mut done = 0u64;
-    for i in 0..asked.calls {
-        if !call(shared, &mut seat, asked.stores, i) {
-            continue;
-        }
-        done = done.wrapping_add(1);
+    let Ran { seat, done } = ran;
+    let seats = u64::from(asked.plan.seats);
+    let calls = u64::from(asked.calls) * seats;
+    let changes = asked.plan.changes * seats - seat.changes_left();
+    let closed = shared.close(seat);
+    Outcome {
+        closed,
+        calls,
+        done,
+        changes,
     }
-    Ran { seat, done }
-}
-
-// Makes one call, and answers whether it was made, with Done at a store.
-fn call(shared: &Shared, seat: &mut Seat, stores: bool, i: u32) -> bool
-    requires ready { IsReady shared.now seat.old }
-    ensures ready { IsReady shared.now seat.new }
-    ensures called { HasCalled stores shared.now.plan i seat.old seat.new result }
-    ensures spent { seat.old.view.changes ≤ seat.new.view.changes + 1 }
-{
-    let registers = shared.plan().registers;
-    if registers == 0 {
-        return false;
-    }
-    let thread = seat.number();
-    let reg = thread.wrapping_add(i) % registers;
-    if !stores {
-        load(shared, seat, reg);
-        return true;
-    }
-    if seat.changes_left() == 0 {
-        return false;
-    }
-    let mut new = [0; WIDTH];
-    new[0] = u64::from(i) + 1;
-    new[1] = u64::from(thread);
-    store(shared, seat, reg, new) == Stored::Done
 }

@@ -1,0 +1,67 @@
+//! The calls of a thread: what each is, its register, and the record that it brings.
+ghost use Rattle.std.specs.Prelude.{◌≡◌, ◌<◌};
+ghost use Rattle.register_speed.specs.Turns.{IsNew, drawn, draw_of, register_of, step_of};
+
+use crate::asked::{Asked, Kind};
+use big_atomic::{Rec, WIDTH};
+
+/// What a call is.
+#[derive(Clone, Copy, Drop, PartialEq, Eq)]
+pub(crate) enum Step {
+    Load,
+    Store,
+    Swap,
+}
+
+/// What a thread's call i is. In a mix a compare-and-swap comes after each load.
+pub(crate) fn step_of(kind: Kind, i: u32) -> Step
+    ensures { result ≡ step_of kind i }
+{
+    match kind {
+        Kind::Load => Step::Load,
+        Kind::Store => Step::Store,
+        Kind::Mix if i % 2 == 0 => Step::Load,
+        Kind::Mix => Step::Swap,
+    }
+}
+
+/// The register of a thread's call i.
+pub(crate) fn register_of(asked: &Asked, thread: u32, i: u32) -> u32
+    ensures register { result ≡ register_of asked.now thread i }
+    ensures there { result < asked.now.plan.registers }
+{
+    let number = drawn(asked, thread, draw_of(asked.kind, i));
+    (number % u64::from(asked.plan.registers)) as u32
+}
+
+// How often the thread drew a register before its call i: a mix draws one for two calls.
+fn draw_of(kind: Kind, i: u32) -> u32
+    ensures { result ≡ draw_of kind i }
+{
+    match kind {
+        Kind::Mix => i / 2,
+        _ => i,
+    }
+}
+
+// The number that a thread draws.
+fn drawn(asked: &Asked, thread: u32, draw: u32) -> u64
+    ensures { result ≡ drawn asked.now.numbers.items asked.now.calls thread draw }
+{
+    let count = asked.numbers.len() as u64;
+    if count == 0 {
+        return u64::from(thread) + u64::from(draw);
+    }
+    let place = u64::from(thread) * u64::from(asked.calls) + u64::from(draw);
+    u64::from(asked.numbers[(place % count) as usize])
+}
+
+/// The record that a thread's call i brings. No other call brings it.
+pub(crate) fn record_of(thread: u32, i: u32) -> Rec
+    ensures { IsNew thread i result }
+{
+    let mut new = [0; WIDTH];
+    new[0] = u64::from(i) + 1;
+    new[1] = u64::from(thread);
+    new
+}
