@@ -1,9 +1,10 @@
 -- Bytes that begin with a datagram have no fault.
-use Rattle.std.proofs.Common.{◌≡◌, ℕ, ◌+◌, ◌*◌, ◌<◌, ◌≤◌, List, ◌++◌, length, subst, ◌∙◌, arith, inl, inr}
+use Rattle.std.proofs.Common.{◌≡◌, ℕ, ◌+◌, ◌*◌, ◌<◌, ◌≤◌, List, ◌++◌, length, subst, sym, ◌∙◌, arith, inl, inr}
 use Rattle.std.proofs.lemmas.List.{length-append}
 use Rattle.netflow_five.specs.Field.{field}
 use Rattle.netflow_five.specs.Datagram.{IsDatagram, BeginsWithDatagram, version_of, count_of}
 use Rattle.netflow_five.specs.Fault.{IsFault, IsBadCount}
+use Rattle.netflow_five.specs.Next.{IsShort}
 use Rattle.netflow_five.specs.declared.malformed.Malformed.{Malformed}
 use Rattle.netflow_five.specs.declared.malformed.Malformed.TheVariants.{ShortHeader, Version, Count, ShortRecords}
 use Rattle.netflow_five.proofs.Front.{field_append}
@@ -52,3 +53,26 @@ no_fault datagram rest cause is fault = no_fault_at (datagram ++ rest) datagram 
 pub none_begins : (bytes : List ℕ) (cause : Malformed) → IsFault bytes cause → BeginsWithDatagram bytes → ⊥
 none_begins bytes cause fault begins =
     no_fault begins.0 begins.1 cause begins.2 (subst (λ (z : List ℕ). IsFault z cause) begins.3 fault)
+
+version_longer : (bytes rest : List ℕ) → 24 ≤ length bytes → version_of (bytes ++ rest) ≡ version_of bytes
+unfolding version_of
+version_longer bytes rest header = field_append 0 2 bytes rest (omega arith)
+
+count_longer : (bytes rest : List ℕ) → 24 ≤ length bytes → count_of (bytes ++ rest) ≡ count_of bytes
+unfolding count_of
+count_longer bytes rest header = field_append 2 2 bytes rest (omega arith)
+
+-- a fault that more bytes don't mend stays, whatever follows
+pub lasts : (bytes rest : List ℕ) (cause : Malformed) → (IsShort cause → ⊥) → IsFault bytes cause → IsFault (bytes ++ rest) cause
+lasts bytes rest (ShortHeader left) long fault = absurd (long tt)
+lasts bytes rest (Version found) long fault = (omega (arith, fault.0, length-append bytes rest), fault.1 ∙ sym (version_longer bytes rest fault.0), fault.2)
+lasts bytes rest (Count found) long fault =
+    (omega (arith, fault.0, length-append bytes rest), version_longer bytes rest fault.0 ∙ fault.1, fault.2 ∙ sym (count_longer bytes rest fault.0), fault.3)
+lasts bytes rest (ShortRecords left wanted) long fault = absurd (long tt)
+
+-- where more bytes may mend the fault, there are fewer than the longest datagram has
+pub short_bytes : (bytes : List ℕ) (cause : Malformed) → IsShort cause → IsFault bytes cause → length bytes < 1464
+short_bytes bytes (ShortHeader left) short fault = omega (arith, fault.0, fault.1)
+short_bytes bytes (Version found) short fault = absurd short
+short_bytes bytes (Count found) short fault = absurd short
+short_bytes bytes (ShortRecords left wanted) short fault = omega (arith, fault.2, fault.3, fault.4, fault.5)

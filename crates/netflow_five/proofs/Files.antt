@@ -20,7 +20,7 @@ all_push : (ds : List (List ℕ)) (d : List ℕ) → AllByRecursion IsDatagram d
 all_push [] d all is = (is, tt)
 all_push (e ∷ ds) d all is = (all.0, all_push ds d all.1 is)
 
-joined_push : (ds : List (List ℕ)) (d : List ℕ) → joined (ds ++ d ∷ []) ≡ joined ds ++ d
+pub joined_push : (ds : List (List ℕ)) (d : List ℕ) → joined (ds ++ d ∷ []) ≡ joined ds ++ d
 joined_push [] d = append-nil d
 joined_push (e ∷ ds) d = ap (λ (x : List ℕ). e ++ x) (joined_push ds d) ∙ sym (append_assoc e (joined ds) d)
 
@@ -41,10 +41,11 @@ one_more bytes at ds d read is place within =
     record { file = record { each = all_push ds d read.file.each is; whole = whole }; within = within }
 
 -- and where it begins is noted after the places of those before
-pub one_place_more : (bytes : List ℕ) (at : ℕ) (ds : List (List ℕ)) (d : List ℕ) → ReadTo bytes at ds → places 0 ds ++ (at, count_of d) ∷ [] ≡ places 0 (ds ++ d ∷ [])
-one_place_more bytes at ds d read =
-    let begins : at ≡ length (joined ds) = omega (arith, length-take at bytes, ap length read.file.whole, read.within) in
-    ap (λ (k : ℕ). places 0 ds ++ (k, count_of d) ∷ []) begins ∙ sym (places_push 0 ds d ∙ ap (λ (k : ℕ). places 0 ds ++ (k, count_of d) ∷ []) (zero-add (length (joined ds))))
+pub one_place_more : (ds : List (List ℕ)) (d : List ℕ) (items : List (ℕ × ℕ)) (at count : ℕ) → items ≡ places 0 ds → at ≡ length (joined ds) → count ≡ count_of d
+    → items ++ (at, count) ∷ [] ≡ places 0 (ds ++ d ∷ [])
+one_place_more ds d items at count noted end is =
+    ap₂ (λ (ps : List (ℕ × ℕ)) (p : ℕ × ℕ). ps ++ p ∷ []) noted (λ i. (end i, is i))
+    ∙ sym (places_push 0 ds d ∙ ap (λ (k : ℕ). places 0 ds ++ (k, count_of d) ∷ []) (zero-add (length (joined ds))))
 
 pub all_read : (bytes : List ℕ) (at : ℕ) (ds : List (List ℕ)) → ReadTo bytes at ds → length bytes ≤ at → IsFile bytes ds
 all_read bytes at ds read end = record { each = read.file.each; whole = sym (take_all at bytes end) ∙ read.file.whole }
@@ -111,7 +112,7 @@ pub joined-append : (ds es : List (List ℕ)) → joined (ds ++ es) ≡ joined d
 joined-append [] es = refl
 joined-append (d ∷ ds) es = ap (λ (z : List ℕ). d ++ z) (joined-append ds es) ∙ sym (append_assoc d (joined ds) (joined es))
 
-all_append : (ds es : List (List ℕ)) → AllByRecursion IsDatagram ds → AllByRecursion IsDatagram es → AllByRecursion IsDatagram (ds ++ es)
+pub all_append : (ds es : List (List ℕ)) → AllByRecursion IsDatagram ds → AllByRecursion IsDatagram es → AllByRecursion IsDatagram (ds ++ es)
 all_append [] es all alle = alle
 all_append (d ∷ ds) es all alle = (all.0, all_append ds es all.1 alle)
 
@@ -120,6 +121,13 @@ files_joined xs ys ds es x y = record {
   each = all_append ds es x.each y.each;
   whole = ap₂ (λ (a b : List ℕ). a ++ b) x.whole y.whole ∙ sym (joined-append ds es);
 }
+
+-- well-formed files, one after the other, are one well-formed file
+pub joined_well : (files : List (List ℕ)) → AllByRecursion IsWellFormed files → IsWellFormed (joined files)
+joined_well [] well = ([], record { each = tt; whole = refl })
+joined_well (bytes ∷ files) well =
+    let rest = joined_well files well.1 in
+    (well.0.0 ++ rest.0, files_joined bytes (joined files) well.0.0 rest.0 well.0.1 rest.1)
 
 -- bytes that are datagrams are refused for want of memory alone
 pub only_memory : (bytes : List ℕ) (refused : Refused) → IsRefusal bytes refused → IsWellFormed bytes → refused ≡ NoMemory

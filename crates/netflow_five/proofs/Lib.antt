@@ -5,3 +5,5 @@ pub mod Front
 pub mod Generated
 pub mod OneFault
 pub mod Parts
+pub mod SomeFault
+pub mod Streams

@@ -8,3 +8,4 @@ pub mod Header
 pub mod Next
 pub mod Ranges
 pub mod Record
+pub mod Streaming

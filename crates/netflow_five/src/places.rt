@@ -1,11 +1,14 @@
 ghost use Rattle.std.specs.Prelude.{◌≡◌, ◌<◌, ◌↔◌, [], List, ℕ, Some, slice_get, length, IsTrue, IfOk, IfErr};
-ghost use Rattle.netflow_five.specs.File.{IsFile, IsWellFormed, places, IsRefusal};
+ghost use Rattle.netflow_five.specs.File.{IsFile, IsWellFormed, joined, places, IsRefusal};
 ghost use Rattle.netflow_five.specs.declared.refused.Refused.TheVariants.{NoMemory};
 
-use crate::datagrams::Datagrams;
+use crate::collecting::collect_front;
+use crate::collector::Collector;
+use crate::datagram::Datagram;
 use crate::refused::Refused;
 use std::alloc::Global;
 use std::marker::Model;
+use wire_ports::NoMemory as OutOfMemory;
 
 /// Where each datagram of a file begins, and how many records it has.
 #[derive(Debug, Drop)]
@@ -51,20 +54,42 @@ impl Places {
     }
 }
 
+/// The places of the datagrams that were collected so far.
+#[derive(Drop)]
+struct Noted {
+    items: Vec<(usize, u32)>,
+    /// Where the last datagram ends.
+    end: usize,
+}
+
+impl Collector for Noted {
+    ghost holds = { λ noted ds. (noted.items.items ≡ places 0 ds) × (noted.end ≡ length (joined ds)) };
+
+    ghost span = { λ noted. noted.end };
+
+    fn add(&mut self, datagram: &Datagram<'_>) -> Result<(), OutOfMemory> {
+        self.items.push((self.end, datagram.count()))?;
+        self.end += datagram.size();
+        Ok(())
+    }
+}
+
 /// The datagrams of a file, or where and why it is none.
 pub fn decode_all(alloc: Global, bytes: &[u8]) -> Result<Places, Refused>
     ensures ok { IfOk result (λ found. (ds : List (List ℕ)) × IsFile bytes.now ds × (found ≡ places 0 ds)) }
     ensures err { IfErr result (IsRefusal bytes.now) }
     ensures only_memory { IsWellFormed bytes.now → IfErr result (λ refused. refused ≡ NoMemory) }
 {
-    let mut items = Vec::new(alloc);
-    let mut datagrams = Datagrams::new(bytes);
-    'file: loop {
-        let at = datagrams.at();
-        match datagrams.next() {
-            Ok(Some(datagram)) => items.push((at, datagram.count()))?,
-            Ok(None) => return Ok(Places { items }),
-            Err(refused) => return Err(refused),
-        }
+    let mut noted = Noted {
+        items: Vec::new(alloc),
+        end: 0,
+    };
+    let front = collect_front(bytes, &mut noted)?;
+    match front.cause {
+        None => Ok(Places { items: noted.items }),
+        Some(cause) => Err(Refused::Malformed {
+            offset: front.at,
+            cause,
+        }),
     }
 }

@@ -1,5 +1,6 @@
 pub mod Bytes
 pub mod FailingCalls
+pub mod FeedMoments
 pub mod FileReading
 pub mod MemoryFiles
 pub mod MemoryReading

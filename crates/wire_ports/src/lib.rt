@@ -16,6 +16,7 @@ mod std_sink;
 mod steady_feed;
 mod steady_sink;
 mod whole;
+mod window;
 
 pub use feed::{Failed, FailedIn, Feed};
 pub use file_feed::FileFeed;
@@ -28,6 +29,7 @@ pub use std_sink::StdSink;
 pub use steady_feed::SteadyFeed;
 pub use steady_sink::SteadySink;
 pub use whole::{ReadEnd, read_whole};
+pub use window::{Window, pass_rest};
 
 #[cfg(test)]
 mod tests;

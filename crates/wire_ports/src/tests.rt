@@ -1,6 +1,6 @@
 use crate::{
     Failed, Feed, FileFeed, MemoryFeed, MemorySink, NamedBytes, NoMemory, PutFailed, ReadEnd,
-    StdSink, SteadyFeed, SteadySink, put_all, read_whole,
+    StdSink, SteadyFeed, SteadySink, Window, pass_rest, put_all, read_whole,
 };
 use std::alloc::{AllocError, Global};
 use std::fs;
@@ -84,6 +84,63 @@ fn reads_whole_files_in_pieces(rt: HostRuntime) -> Result<(), Fail> {
     }
     assert_eq!(rt; read_in_pieces(alloc, "b", 32, &[], 0)?, End::Whole);
     assert_eq!(rt; read_in_pieces(alloc, "c", 32, &[], LEN)?, End::NotStarted);
+    Ok(())
+}
+
+// Whether two reads through the window and a third at the end give the text, of which the first
+// bytes, at most `skipped`, are let go after the first read.
+fn reads_through(
+    feed: &mut MemoryFeed,
+    window: &mut Window,
+    skipped: usize,
+) -> Result<bool, ReadEnd> {
+    if feed.start(1, "a").is_err() {
+        return Err(ReadEnd::Failed);
+    }
+    window.clear();
+    let first = window.fill(feed, LEN)?;
+    let gone = first.min(skipped);
+    window.skip(gone);
+    let second = window.fill(feed, LEN)?;
+    let third = window.fill(feed, LEN)?;
+    let all = first.checked_add(second) == Some(LEN) && third == 0;
+    Ok(all && TEXT.ends_with(window.as_slice()) && window.as_slice().len() == LEN - gone.min(LEN))
+}
+
+#[test]
+fn reads_through_a_window(rt: HostRuntime) -> Result<(), Fail> {
+    let alloc = rt.alloc();
+    let mut window = Window::new(alloc)?;
+    let mut feed = MemoryFeed::new(files(alloc)?, Vec::new(alloc), 32);
+    for skipped in [0, 20, 32] {
+        assert_eq!(rt;
+            reads_through(&mut feed, &mut window, skipped),
+            Ok(true),
+            "{skipped}"
+        );
+    }
+    Ok(())
+}
+
+// What the rest of the file is, after one read.
+fn pass(alloc: Global, failing: u32, most: usize) -> Result<Result<usize, ReadEnd>, NoMemory> {
+    let mut feed = MemoryFeed::new(files(alloc)?, Vec::from_slice(alloc, &[failing])?, 16);
+    let mut window = Window::new(alloc)?;
+    if feed.start(1, "a").is_err() {
+        return Ok(Err(ReadEnd::NoMemory));
+    }
+    Ok(match window.fill(&mut feed, LEN) {
+        Ok(_) => pass_rest(&mut feed, &mut window, most),
+        Err(end) => Err(end),
+    })
+}
+
+#[test]
+fn passes_the_rest_of_a_file(rt: HostRuntime) -> Result<(), Fail> {
+    let alloc = rt.alloc();
+    assert_eq!(rt; pass(alloc, 0, LEN - 16)?, Ok(LEN - 16));
+    assert_eq!(rt; pass(alloc, 0, LEN - 17)?, Err(ReadEnd::TooLarge));
+    assert_eq!(rt; pass(alloc, 5, LEN)?, Err(ReadEnd::Failed));
     Ok(())
 }
 

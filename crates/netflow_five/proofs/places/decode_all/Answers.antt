@@ -1,34 +1,26 @@
-use Rattle.std.proofs.Common.{◌≡◌, ◌∙◌, ℕ, List, [], ◌∷◌, ◌++◌, Ok, Some, ap, subst, sym}
-use Rattle.netflow_five.specs.Datagram.{count_of}
-use Rattle.netflow_five.specs.File.{places, IsRefusal}
-use Rattle.netflow_five.specs.Next.{ReadTo, IsNext}
-use Rattle.netflow_five.proofs.Files.{one_place_more, only_memory}
+use Rattle.std.proofs.Common.{◌≡◌, [], Option, Some, length, subst, arith, refl}
+use Rattle.netflow_five.specs.Next.{StopsAt}
+use Rattle.netflow_five.specs.declared.malformed.Malformed.{Malformed as Cause}
+use Rattle.netflow_five.specs.declared.refused.Refused.TheVariants.{Malformed}
+use Rattle.netflow_five.proofs.Files.{all_read, bad_here, only_memory}
 use Rattle.netflow_five.proofs.places.decode_all.Goals as goal
 
-pub file-preserved : goal.file-preserved
-file-preserved c =
+pub returns-in-None-clause-ok : goal.returns-in-None-clause-ok
+returns-in-None-clause-ok c =
     let bytes = c.args.bytes.now in
-    let at = c.file.datagrams.at in
-    let d = c.in-Ok-Some.datagram.bytes.now in
-    let ds = c.file.invariant.read.0 in
-    let same = c.file.invariant.bytes in
-    let read : ReadTo c.file.datagrams.bytes.now at ds = subst (λ (z : List ℕ). ReadTo z at ds) (sym same) c.file.invariant.read.1 in
-    let next : IsNext c.file.datagrams.bytes.now at c.next.new.self.at (Ok (Some c.in-Ok-Some.datagram)) =
-    subst (λ o. IsNext c.file.datagrams.bytes.now at c.next.new.self.at (Ok o)) c.in-Ok-Some.field-0-is c.in-Ok-Some.ensures.next in
-    let more : ReadTo bytes c.next.new.self.at (ds ++ d ∷ []) =
-    subst (λ (z : List ℕ). ReadTo z c.next.new.self.at (ds ++ d ∷ [])) same (next ds read) in
-    let items : c.push.new.self.items ≡ places 0 (ds ++ d ∷ []) =
-    c.in_ok-push-in-Ok-Some.ensures.items
-    ∙ ap (λ (p : ℕ × ℕ). c.file.items.items ++ p ∷ []) (λ i. (c.at-at.ensures i, c.count.ensures i))
-    ∙ ap (λ (z : List (ℕ × ℕ)). z ++ (at, count_of d) ∷ []) c.file.invariant.read.2
-    ∙ one_place_more bytes at ds d c.file.invariant.read.1 in
-    record { bytes = ap (λ z. z.now) c.in-Ok-Some.ensures.bytes ∙ same; read = (ds ++ d ∷ [], more, items) }
+    let at = c.in_ok-front.front.at in
+    let front = c.in_ok-front.ensures.front in
+    let end : at ≡ length bytes = subst (λ (o : Option Cause). StopsAt bytes at o) c.in-None.is c.in_ok-front.ensures.stops in
+    (front.0, all_read bytes at front.0 front.1 (omega arith), (front.2 [] (c.new.ensures.items, refl)).0)
 
-pub returns-in-Err-clause-only_memory : goal.returns-in-Err-clause-only_memory
-returns-in-Err-clause-only_memory c =
+pub returns-in-Some-clause-err : goal.returns-in-Some-clause-err
+returns-in-Some-clause-err c =
     let bytes = c.args.bytes.now in
-    let ds = c.file.invariant.read.0 in
-    let at = c.file.datagrams.at in
-    let same = c.file.invariant.bytes in
-    let read : ReadTo c.file.datagrams.bytes.now at ds = subst (λ (z : List ℕ). ReadTo z at ds) (sym same) c.file.invariant.read.1 in
-    only_memory bytes c.in-Err.refused (subst (λ (z : List ℕ). IsRefusal z c.in-Err.refused) same (c.in-Err.ensures.next ds read))
+    let at = c.in_ok-front.front.at in
+    let front = c.in_ok-front.ensures.front in
+    let stops : StopsAt bytes at (Some c.in-Some.cause) = subst (λ (o : Option Cause). StopsAt bytes at o) c.in-Some.is c.in_ok-front.ensures.stops in
+    bad_here bytes at front.0 c.in-Some.cause front.1 stops.0 stops.1
+
+pub returns-in-Some-clause-only_memory : goal.returns-in-Some-clause-only_memory
+returns-in-Some-clause-only_memory c =
+    only_memory c.args.bytes.now (Malformed c.in_ok-front.front.at c.in-Some.cause) (returns-in-Some-clause-err c)

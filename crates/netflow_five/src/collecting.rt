@@ -1,0 +1,44 @@
+ghost use Rattle.std.specs.Prelude.{◌≡◌, ◌+◌, ◌<◌, ◌≤◌, ◌^◌, List, ℕ, length, IfOk};
+ghost use Rattle.netflow_five.specs.Next.{ReadTo, StopsAt, CameTo};
+
+use crate::collector::Collector;
+use crate::datagram::decode;
+use crate::malformed::Malformed;
+use wire_ports::NoMemory;
+
+/// Where the datagrams end that bytes begin with, and why no further one begins there. There is no
+/// cause where the bytes end too.
+#[derive(Clone, Copy, Debug, PartialEq, Eq)]
+pub(crate) struct Front {
+    pub(crate) at: usize,
+    pub(crate) cause: Option<Malformed>,
+}
+
+/// Collects the datagrams that the bytes begin with, one after the other.
+pub(crate) fn collect_front<C: Collector>(
+    bytes: &[u8],
+    collector: &mut C,
+) -> Result<Front, NoMemory>
+    requires span { C.span collector.old + length bytes.now < 2 ^ 64 }
+    ensures front { IfOk result (λ front. (ds : List (List ℕ)) × ReadTo bytes.now front.at ds
+        × CameTo C.holds collector.old ds collector.new) }
+    ensures stops { IfOk result (λ front. StopsAt bytes.now front.at front.cause) }
+    ensures span { IfOk result (λ front. C.span collector.new ≤ C.span collector.old + front.at) }
+{
+    let mut at = 0;
+    'datagrams: while at < bytes.len() {
+        match decode(bytes, at) {
+            Ok(datagram) => {
+                collector.add(&datagram)?;
+                at += datagram.size();
+            }
+            Err(cause) => {
+                return Ok(Front {
+                    at,
+                    cause: Some(cause),
+                });
+            }
+        }
+    }
+    Ok(Front { at, cause: None })
+}
