@@ -8,7 +8,7 @@ use Rattle.call_script.specs.Spelling.{HasCallWords}
 use Rattle.call_script.specs.declared.form.Form.{Form}
 use Rattle.call_script.specs.declared.form.Form.TheVariants.{Load, Store, Swap, Hold, Look, Release, Find, Insert, Replace, Remove}
 
-some_key : KeyWords
+pub some_key : KeyWords
 some_key = record { k0 = 0; k1 = 0 }
 
 pub form_words : (form : Form) → HasCallWords (words_in form)

@@ -1,3 +1,4 @@
+pub mod Decisions
 pub mod Parts
 pub mod Numbers
 pub mod Tuples
@@ -8,6 +9,9 @@ pub mod Spelled
 pub mod Causes
 pub mod SoFar
 pub mod SomeRun
+pub mod SomeWord
+pub mod SomeCall
+pub mod SomeReading
 pub mod OneCall
 pub mod OneReading
 pub mod OneRun

@@ -2,17 +2,15 @@
 use Rattle.std.specs.Prelude.{is_some}
 use Rattle.std.specs.List.{AllZip}
 use Rattle.std.proofs.Common.{◌≡◌, ◌∙◌, ℕ, ◌+◌, ◌<◌, ◌≤◌, List, [], ◌∷◌, ◌++◌, length, take, drop, refl, sym, ap, subst, arith, length-append, false, replicate}
-use Rattle.std.proofs.lemmas.List.{take_more, length-drop}
+use Rattle.std.proofs.lemmas.List.{take_more}
 use Rattle.seat_history.proofs.Blank.{get_or_replicate_same}
 use Rattle.seat_history.specs.History.{object_from}
 use Rattle.seat_history.specs.Object.{Object, MayCall, blank_object, object_after}
 use Rattle.seat_history.specs.declared.entry.Entry.{Entry}
-use Rattle.call_script.specs.Cut.{parts_at}
 use Rattle.call_script.specs.Holding.{TellsHolders}
 use Rattle.call_script.specs.Line.{HasCause, IsInRange, MayHaveCallers, NamesCallers, SpellsEntry}
 use Rattle.call_script.specs.Script.{MayRun, IsScript, IsBadCall, IsOneMore}
 use Rattle.call_script.specs.declared.bad_script.LineCause.{LineCause}
-use Rattle.call_script.proofs.Parts.{parts_some}
 use Rattle.call_script.proofs.Tuples.{drop_first, drop_nothing}
 use Rattle.call_script.proofs.Zips.{zip_push}
 
@@ -75,12 +73,5 @@ module _ (callers : ℕ) (all : List (List ℕ)) (entries : List Entry) (read : 
           fits = subst (λ l. HasCause callers (object_from blank_object entries) l cause) (sym next.1) fits;
         }
 
-    pub one_more : (bytes : List ℕ) → drop (length entries) all ≡ parts_at 10 bytes → length entries ≡ 65536 → IsOneMore first all (length entries + 2)
-    one_more bytes left full = record {
-      callers = callers;
-      entries = entries;
-      before = front_script;
-      number = refl;
-      there = omega (arith, parts_some 10 bytes, length-drop (length entries) all, ap length left);
-      full = full;
-    }
+    pub one_more : length entries < length all → length entries ≡ 65536 → IsOneMore first all (length entries + 2)
+    one_more there full = record { callers = callers; entries = entries; before = front_script; number = refl; there = there; full = full }

@@ -15,6 +15,7 @@ use Rattle.call_script.specs.Cut.{parts_at, words_of}
 use Rattle.call_script.specs.Line.{SpellsEntry, SpellsWords}
 use Rattle.call_script.specs.Number.{IsNumber, IsTuple}
 use Rattle.call_script.specs.Run.{IsRun, registers_in}
+use Rattle.call_script.specs.Script.{Good, ReadAs}
 use Rattle.call_script.specs.Spelling.{IsField, IsKey, UpTo, fields_of, key_field}
 use Rattle.call_script.specs.declared.driven.Driven.{Driven}
 use Rattle.call_script.proofs.Orders.{run_in_script_order}
@@ -85,3 +86,8 @@ some_run lines entries spelled =
       pairs = pairs.0;
     } in
     (driven, run_in_script_order entries driven refl refl pairs.1 pairs.2)
+
+-- so does each script
+pub script_run : (lines : List (List ℕ)) (callers : ℕ) (entries : List Entry) → ReadAs lines (Good callers entries) → (driven : Driven) × IsRun entries driven
+script_run [] callers entries reads = absurd reads
+script_run (first ∷ rest) callers entries reads = some_run rest entries reads.spelled

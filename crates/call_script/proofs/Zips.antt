@@ -1,6 +1,8 @@
 -- Two lists side by side.
 use Rattle.std.specs.List.{AllZip}
 use Rattle.std.proofs.Common.{◌≡◌, ℕ, zero, suc, ◌<◌, List, [], ◌∷◌, ◌++◌, length, take, get_or, refl, ap, arith}
+use Rattle.std.proofs.Math.Decide.{map_dec}
+use Rattle.call_script.proofs.Decisions.{both_dec}
 
 module _ {A B : Type 0} (R : A → B → Type 0) where
   pub zip_length : (xs : List A) (ys : List B) → AllZip R xs ys → length xs ≡ length ys
@@ -36,3 +38,12 @@ module _ {A B : Type 0} (R : A → B → Type 0) where
   zip_one one (x ∷ xs) [] zs h k = absurd h
   zip_one one (x ∷ xs) (y ∷ ys) [] h k = absurd k
   zip_one one (x ∷ xs) (y ∷ ys) (z ∷ zs) h k = λ i. one x y z h.0 k.0 i ∷ zip_one one xs ys zs h.1 k.1 i
+
+  -- where R is decided, a list beside a list is
+  pub zip_dec : ((x : A) → Dec ((y : B) × R x y)) → (xs : List A) → Dec ((ys : List B) × AllZip R xs ys)
+  zip_dec each [] = yes ([], tt)
+  zip_dec each (x ∷ xs) = map_dec (λ both. (both.0.0 ∷ both.1.0, (both.0.1, both.1.1))) (λ all. first_apart all.0 all.1) (both_dec (each x) (zip_dec each xs))
+    where
+      first_apart : (ys : List B) → AllZip R (x ∷ xs) ys → ((y : B) × R x y) × ((zs : List B) × AllZip R xs zs)
+      first_apart [] h = absurd h
+      first_apart (y ∷ ys) h = ((y, h.0), (ys, h.1))

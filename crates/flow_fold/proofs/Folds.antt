@@ -1,5 +1,5 @@
 -- Folds: of no pairs, of one pair more, in any order, and that there is one only.
-use Rattle.std.proofs.Common.{◌≡◌, ◌≢◌, ◌∙◌, ℕ, ◌^◌, ◌<◌, Bool, true, false, cond, Option, Some, None, List, [], ◌∷◌, ◌++◌, ap, refl, sym, subst, arith, length}
+use Rattle.std.proofs.Common.{◌≡◌, ◌≢◌, ◌∙◌, ℕ, ◌%◌, ◌^◌, ◌<◌, Bool, true, false, cond, Option, Some, None, List, [], ◌∷◌, ◌++◌, ap, refl, sym, subst, arith, length}
 use Rattle.std.specs.Prelude.{map, filter, MatchOption, Contains}
 use Rattle.std.specs.BTreeMap.{BTreeMap, Updates, get, is_at}
 use Rattle.std.specs.List.Sorted.{IsPermutation}
@@ -10,13 +10,13 @@ use Rattle.std.proofs.lemmas.List.Sorted.{IsPermutation-map, length_permutation}
 use Rattle.flow_fold.specs.Flows.{Flows, HasRisingKeys, value_in}
 use Rattle.flow_fold.specs.Fold.{IsFold, IsTotal, values_at}
 use Rattle.flow_fold.specs.Key.{key_cmp}
-use Rattle.flow_fold.specs.Merge.{merged_into}
+use Rattle.flow_fold.specs.Merge.{merge_of, merged_into}
 use Rattle.flow_fold.specs.declared.key.Key.{Key}
 use Rattle.flow_fold.specs.declared.value.Value.{Value}
 use Rattle.flow_fold.proofs.Filters.{IsPermutation-filter}
 use Rattle.flow_fold.proofs.Rising.{rising_same}
 use Rattle.flow_fold.proofs.SameKey.{same_key}
-use Rattle.flow_fold.proofs.Totals.{total_one, total_push, total_permutation, total_unique}
+use Rattle.flow_fold.proofs.Totals.{total_alone, total_one, total_push, total_permutation, total_unique}
 
 one_kept : (b : Bool) (k : Key) (v : Value) → map (λ (p : Key × Value). p.1) (cond b ((k, v) ∷ []) []) ≡ cond b (v ∷ []) []
 one_kept true k v = refl
@@ -41,6 +41,13 @@ TotalsTo values at = MatchOption at (values ≡ []) (IsTotal values)
 one_more : (values : List Value) (at : Option Value) (v : Value) → v.packets < 2 ^ 64 → v.octets < 2 ^ 64 → TotalsTo values at → IsTotal (values ++ v ∷ []) (merged_into at v)
 one_more values None v p o h = subst (λ (vs : List Value). IsTotal (vs ++ v ∷ []) v) (sym h) (total_one v p o)
 one_more values (Some t) v p o h = total_push values t v h
+
+-- with one value more there is a total
+pub some_total : (values : List Value) (at : Option Value) (v : Value) → TotalsTo values at → (total : Value) × IsTotal (values ++ v ∷ []) total
+some_total values None v h =
+    let total : Value = record { packets = v.packets % 2 ^ 64; octets = v.octets % 2 ^ 64; first = v.first; last = v.last } in
+    (total, subst (λ (vs : List Value). IsTotal (vs ++ v ∷ []) total) (sym h) (total_alone v))
+some_total values (Some t) v h = (merge_of t v, total_push values t v h)
 
 any_order : (values others : List Value) (at : Option Value) → IsPermutation values others → TotalsTo values at → TotalsTo others at
 any_order values others None p h = nil_from_length others (length_permutation values others p ∙ ap length h)
@@ -68,21 +75,21 @@ unfolding values_at
 fold_none at nothing key = subst (TotalsTo []) (sym (nothing key)) refl
 
 -- one pair more, at a key that is its own where b holds
-one_pair : (b : Bool) (values : List Value) (old new : Option Value) (v : Value) → v.packets < 2 ^ 64 → v.octets < 2 ^ 64
-    → (b ≡ true → new ≡ Some (merged_into old v)) → (b ≡ false → new ≡ old) → TotalsTo values old → TotalsTo (values ++ cond b (v ∷ []) []) new
-one_pair true values old new v p o merged kept h = subst (TotalsTo (values ++ v ∷ [])) (sym (merged refl)) (one_more values old v p o h)
-one_pair false values old new v p o merged kept h = subst (λ (vs : List Value). TotalsTo vs new) (sym (append-nil values)) (subst (TotalsTo values) (sym (kept refl)) h)
+one_pair : (b : Bool) (values : List Value) (old new : Option Value) (v w : Value)
+    → (b ≡ true → IsTotal (values ++ v ∷ []) w × (new ≡ Some w)) → (b ≡ false → new ≡ old) → TotalsTo values old → TotalsTo (values ++ cond b (v ∷ []) []) new
+one_pair true values old new v w here kept h = let at = here refl in subst (TotalsTo (values ++ v ∷ [])) (sym at.1) at.0
+one_pair false values old new v w here kept h = subst (λ (vs : List Value). TotalsTo vs new) (sym (append-nil values)) (subst (TotalsTo values) (sym (kept refl)) h)
 
--- with one pair more, its value is merged in at its key, and each other key stays
-pub fold_push : (pairs : List (Key × Value)) (old new : Key → Option Value) (key : Key) (value : Value)
-    → value.packets < 2 ^ 64 → value.octets < 2 ^ 64
-    → new key ≡ Some (merged_into (old key) value) → ((other : Key) → other ≢ key → new other ≡ old other)
+-- with one pair more, its key has the total with its value, and each other key stays
+pub fold_push : (pairs : List (Key × Value)) (old new : Key → Option Value) (key : Key) (value total : Value)
+    → IsTotal (values_at key pairs ++ value ∷ []) total → new key ≡ Some total → ((other : Key) → other ≢ key → new other ≡ old other)
     → IsFold pairs old → IsFold (pairs ++ (key, value) ∷ []) new
-fold_push pairs old new key value p o here elsewhere h q =
-    let merged = λ (e : is_at (key_cmp q) key ≡ true). subst (λ (k : Key). new k ≡ Some (merged_into (old k) value)) (sym ((same_key q key).0 e)) here in
+fold_push pairs old new key value total is here elsewhere h q =
+    let at = λ (e : is_at (key_cmp q) key ≡ true).
+    subst (λ (k : Key). IsTotal (values_at k pairs ++ value ∷ []) total × (new k ≡ Some total)) (sym ((same_key q key).0 e)) (is, here) in
     let kept = λ (e : is_at (key_cmp q) key ≡ false). elsewhere q (λ same. false≢true (sym e ∙ (same_key q key).1 same)) in
     subst (λ (vs : List Value). TotalsTo vs (new q)) (sym (values_at-push q key value pairs))
-    (one_pair (is_at (key_cmp q) key) (values_at q pairs) (old q) (new q) value p o merged kept (h q))
+    (one_pair (is_at (key_cmp q) key) (values_at q pairs) (old q) (new q) value total at kept (h q))
 
 -- a fold of pairs is one of the same pairs in any order
 pub fold_permutation : (pairs others : List (Key × Value)) (at : Key → Option Value) → IsPermutation pairs others → IsFold pairs at → IsFold others at
@@ -102,8 +109,9 @@ pub fold_updated : (pairs : List (Key × Value)) (m n : BTreeMap Key Value) (key
     → w ≡ merged_into (get key_cmp m key) value → Updates key_cmp m n key (Some w)
     → IsFold pairs (get key_cmp m) → IsFold (pairs ++ (key, value) ∷ []) (get key_cmp n)
 fold_updated pairs m n key value w p o is updates h =
-    fold_push pairs (get key_cmp m) (get key_cmp n) key value p o
-    (updates.1 ∙ ap (λ (v : Value). Some v) is)
+    fold_push pairs (get key_cmp m) (get key_cmp n) key value w
+    (subst (IsTotal (values_at key pairs ++ value ∷ [])) (sym is) (one_more (values_at key pairs) (get key_cmp m key) value p o (h key)))
+    updates.1
     (λ other apart. updates.2 other (false_from_ne_true _ (λ e. apart (sym ((same_key key other).0 e)))))
     h
 

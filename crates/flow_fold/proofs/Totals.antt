@@ -1,5 +1,5 @@
 -- The total of values: of one, of one more, in any order, and that there is one only.
-use Rattle.std.proofs.Common.{◌≡◌, ◌∙◌, ℕ, ◌+◌, ◌%◌, ◌^◌, ◌<◌, ◌≤◌, List, [], ◌∷◌, ◌++◌, min, max, ap, sym, subst, ⊎_elim, arith}
+use Rattle.std.proofs.Common.{◌≡◌, ◌∙◌, ℕ, ◌+◌, ◌%◌, ◌^◌, ◌<◌, ◌≤◌, List, [], ◌∷◌, ◌++◌, min, max, ap, sym, subst, ⊎_elim, mod-eq_of_lt, arith}
 use Rattle.std.specs.List.{sum_by}
 use Rattle.std.specs.List.Sorted.{IsPermutation}
 use Rattle.std.proofs.lemmas.Bool.{cases_lt}
@@ -38,17 +38,24 @@ greatest_push ns n m h = ⊎_elim
 sum_push : (f : Value → ℕ) (vs : List Value) (v : Value) (t : ℕ) → t ≡ sum_by f vs % 2 ^ 64 → (t + f v) % 2 ^ 64 ≡ sum_by f (vs ++ v ∷ []) % 2 ^ 64
 sum_push f vs v t h = let e = sum_by_push f vs v in omega arith
 
-alone : (n : ℕ) → n < 2 ^ 64 → n ≡ (0 + n) % 2 ^ 64
-alone n below = omega arith
-
--- the total of one value is the value
-pub total_one : (v : Value) → v.packets < 2 ^ 64 → v.octets < 2 ^ 64 → IsTotal (v ∷ []) v
-total_one v p o = record {
-  packets = alone v.packets p;
-  octets = alone v.octets o;
+-- one value has a total
+pub total_alone : (v : Value) → IsTotal (v ∷ []) (record { packets = v.packets % 2 ^ 64; octets = v.octets % 2 ^ 64; first = v.first; last = v.last })
+total_alone v = record {
+  packets = alone v.packets;
+  octets = alone v.octets;
   first = record { among = Contains-push [] v.first; below = All-push (λ k. v.first ≤ k) [] v.first (All-nil _) (omega arith) };
   last = record { among = Contains-push [] v.last; above = All-push (λ k. k ≤ v.last) [] v.last (All-nil _) (omega arith) };
 }
+  where
+    alone : (n : ℕ) → n % 2 ^ 64 ≡ (0 + n) % 2 ^ 64
+    alone n = omega arith
+
+-- it is the value itself, where its numbers are below 2^64
+pub total_one : (v : Value) → v.packets < 2 ^ 64 → v.octets < 2 ^ 64 → IsTotal (v ∷ []) v
+total_one v p o =
+    let packets : v.packets % 2 ^ 64 ≡ v.packets = mod-eq_of_lt p in
+    let octets : v.octets % 2 ^ 64 ≡ v.octets = mod-eq_of_lt o in
+    subst (IsTotal (v ∷ [])) (λ i. record { packets = packets i; octets = octets i; first = v.first; last = v.last }) (total_alone v)
 
 -- one value more is merged into the total
 pub total_push : (vs : List Value) (t v : Value) → IsTotal vs t → IsTotal (vs ++ v ∷ []) (merge_of t v)

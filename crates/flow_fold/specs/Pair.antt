@@ -1,5 +1,5 @@
 -- The key and the value of a record.
-use Rattle.std.specs.Prelude.{ℕ, ◌+◌, ◌*◌, ◌^◌, List, map}
+use Rattle.std.specs.Prelude.{◌+◌, ◌*◌, ◌^◌, List, map}
 use Rattle.netflow_five.specs.declared.record.FlowRecord.{FlowRecord}
 use Rattle.flow_fold.specs.declared.key.Key.{Key}
 use Rattle.flow_fold.specs.declared.value.Value.{Value}

@@ -1,6 +1,7 @@
 use Rattle.std.specs.Prelude.{option_map}
 use Rattle.std.proofs.Common.{◌≡◌, ◌∙◌, ◌+◌, ◌<◌, List, [], ◌∷◌, ◌++◌, length, drop, ap, sym, subst, arith, inr}
 use Rattle.std.proofs.lemmas.Bool.{false≢true}
+use Rattle.std.proofs.lemmas.List.{length-drop}
 use Rattle.seat_history.proofs.Histories.{object_from-append}
 use Rattle.seat_history.specs.History.{object_from}
 use Rattle.seat_history.specs.Object.{blank_object}
@@ -11,6 +12,7 @@ use Rattle.call_script.specs.Holding.{TellsHolders}
 use Rattle.call_script.specs.Line.{HasCause}
 use Rattle.call_script.specs.Script.{IsBadCall, IsOneMore}
 use Rattle.call_script.specs.declared.bad_script.LineCause.TheVariants.{Held}
+use Rattle.call_script.proofs.Parts.{parts_some}
 use Rattle.call_script.proofs.SoFar.{IsReadSoFar, no_holders, nothing_left, nothing_read, read_more, left_more, whole_script, bad_here, one_more}
 use Rattle.call_script.proofs.reading.read_calls.Goals as goal
 
@@ -30,8 +32,10 @@ returns-then-len-eq-MOST_LINES-clause-bad c = λ first named.
     let left : drop (length entries) (parts_in 10 (option_map (λ bytes. bytes.now) c.args.bytes)) ≡ parts_at 10 c.in-Some.bytes.now = i.left
     ∙ ap (λ rest. parts_in 10 (option_map (λ bytes. bytes.now) rest)) c.in-Some.is in
     let count : length entries ≡ c.len.result = omega arith in
+    let there : length entries < length (parts_in 10 (option_map (λ bytes. bytes.now) c.args.bytes)) =
+    omega (arith, parts_some 10 c.in-Some.bytes.now, length-drop (length entries) (parts_in 10 (option_map (λ bytes. bytes.now) c.args.bytes)), ap length left) in
     subst (λ n. IsOneMore first (parts_in 10 (option_map (λ bytes. bytes.now) c.args.bytes)) (n + 2)) count
-    (one_more c.args.callers _ entries i.read first named c.requires c.in-Some.bytes.now left (omega arith))
+    (one_more c.args.callers _ entries i.read first named c.requires there (omega arith))
 
 pub returns-in-Err-clause-bad : goal.returns-in-Err-clause-bad
 returns-in-Err-clause-bad c = λ first named.
