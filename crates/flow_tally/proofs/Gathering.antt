@@ -1,7 +1,7 @@
 -- What is gathered of datagrams grows record by record, datagram by datagram and file by file.
 use Rattle.std.specs.Prelude.{slice_get}
 use Rattle.std.specs.List.{flat_map}
-use Rattle.std.proofs.Common.{◌≡◌, ◌∙◌, ℕ, ◌+◌, Some, List, [], ◌∷◌, ◌++◌, map, length, take, refl, sym, ap, arith, append_assoc}
+use Rattle.std.proofs.Common.{◌≡◌, ◌∙◌, ℕ, ◌+◌, Some, List, [], ◌∷◌, ◌++◌, map, length, take, refl, sym, ap, arith}
 use Rattle.std.proofs.lemmas.List.{map-append, append-nil, length-append, length-map, take_all}
 use Rattle.std.proofs.lemmas.Grind.{flat_map-append}
 use Rattle.flow_fold.specs.Flows.{Flows}
@@ -43,18 +43,6 @@ length-pairs_of records = length-map records (λ (x : FlowRecord). (record_key x
 pub none_gathered : (gathered : Gathered) → gathered.pairs.items ≡ [] → gathered.datagrams ≡ 0 → HasGathered [] gathered
 unfolding all_records pairs_of
 none_gathered gathered pairs datagrams = record { pairs = pairs; datagrams = datagrams }
-
--- two additions, one after the other
-pub adds_more : (ds es : List (List ℕ)) (a b c : Gathered) → Adds ds a b → Adds es b c → Adds (ds ++ es) a c
-adds_more ds es a b c first second = record {
-  pairs = second.pairs ∙ ap (λ (z : Flows). z ++ pairs_of (all_records es)) first.pairs ∙ append_assoc a.pairs.items (pairs_of (all_records ds)) (pairs_of (all_records es))
-      ∙ ap (λ (z : Flows). a.pairs.items ++ z) (pairs_joined ds es);
-  datagrams = omega (arith, first.datagrams, second.datagrams, length-append ds es);
-}
-
-pub adds_none : (a b : Gathered) → b.pairs.items ≡ a.pairs.items → b.datagrams ≡ a.datagrams → Adds [] a b
-unfolding all_records pairs_of
-adds_none a b pairs datagrams = record { pairs = pairs ∙ sym (append-nil a.pairs.items); datagrams = omega arith }
 
 -- more was gathered
 pub gathered_more : (ds es : List (List ℕ)) (old new : Gathered) → HasGathered ds old → Adds es old new → HasGathered (ds ++ es) new

@@ -6,13 +6,12 @@ use Rattle.std.proofs.lemmas.List.{length-append, append-nil, map-append, take_a
 use Rattle.wire_ports.specs.Ports.{Names, bytes_under}
 use Rattle.netflow_five.specs.File.{joined, IsFile, IsWellFormed}
 use Rattle.netflow_five.proofs.Files.{joined-append, files_joined}
-use Rattle.flow_tally.specs.Input.{most_bytes, AreContents, FeedShown, IsReadOut, StopsAt, IsBytesOf, IsAt, IsTooLarge, RefusesFiles}
+use Rattle.flow_tally.specs.Input.{most_bytes, AreContents, AreGood, FeedShown, IsReadOut, StopsAt, IsBytesOf, IsAt, IsTooLarge, RefusesFiles}
 use Rattle.flow_tally.specs.Reading.{IsLongerFile, Reads, AddsFile, IsGatheredOf, HasRead}
 use Rattle.flow_tally.specs.Gathered.{HasGathered}
 use Rattle.flow_tally.specs.declared.status.Status.{Status}
 use Rattle.flow_tally.specs.declared.status.Status.TheVariants.{Done, Usage, OpenFault, ReadFault, WriteFault, BadDatagram, TooManyFlows, InputTooLarge, BadScript, NoMemory, PlanTooLarge}
 use Rattle.flow_tally.specs.declared.gathered.Gathered.{Gathered}
-use Rattle.flow_tally.proofs.Gathering.{gathered_more}
 use Rattle.flow_tally.proofs.Lists.{take_get, length-take_get}
 
 -- the first i files are these contents, their records are gathered, and so much room is left
@@ -41,7 +40,8 @@ none_so_far names files gathered had = (
   },
 )
 
-told_more : (names : Option Names) (files contents : List (List ℕ)) (i : ℕ) (name bytes : List ℕ) → length contents ≡ i → slice_get files i ≡ Some name
+-- the bytes of one file more
+pub told_more : (names : Option Names) (files contents : List (List ℕ)) (i : ℕ) (name bytes : List ℕ) → length contents ≡ i → slice_get files i ≡ Some name
     → AreContents names (take i files) contents → IsBytesOf names name bytes → AreContents names (take (i + 1) files) (contents ++ bytes ∷ [])
 told_more None files contents i name bytes count is told bytes_is =
     omega (arith, count, length-append contents (bytes ∷ []), length-take_get files i name is)
@@ -57,6 +57,16 @@ each_more (x ∷ xs) bytes all well = (all.0, each_more xs bytes all.1 well)
 joined_more : (contents : List (List ℕ)) (bytes : List ℕ) → joined (contents ++ bytes ∷ []) ≡ joined contents ++ bytes
 joined_more contents bytes = joined-append contents (bytes ∷ []) ∙ ap (λ (z : List ℕ). joined contents ++ z) (append-nil bytes)
 
+length-joined_more : (contents : List (List ℕ)) (bytes : List ℕ) → length (joined (contents ++ bytes ∷ [])) ≡ length (joined contents) + length bytes
+length-joined_more contents bytes = ap length (joined_more contents bytes) ∙ length-append (joined contents) bytes
+
+-- one file more that is good, and within the limit
+pub good_more : (contents : List (List ℕ)) (bytes : List ℕ) → AreGood contents → IsWellFormed bytes → length (joined contents) + length bytes ≤ most_bytes → AreGood (contents ++ bytes ∷ [])
+good_more contents bytes good well within = record {
+  each = each_more contents bytes good.each well;
+  within = omega (arith, within, length-joined_more contents bytes);
+}
+
 -- one file more
 pub file_so_far : (feed : FeedShown) (files : List (List ℕ)) (i left n : ℕ) (name : List ℕ) (file : ℕ) (old new : Gathered)
     → slice_get files i ≡ Some name → SoFar feed.names files i left old → AddsFile left feed name file old new (Ok n) → SoFar feed.names files (i + 1) (left - n) new
@@ -69,17 +79,16 @@ file_so_far feed files i left n name file old new is so_far adds =
     let size : n ≡ length bytes = adds.3 in
     let small : n ≤ left = adds.0 in
     let room : left + length (joined contents) ≡ most_bytes = had.room in
-    let whole : length (joined (contents ++ bytes ∷ [])) ≡ length (joined contents) + length bytes =
-    ap length (joined_more contents bytes) ∙ length-append (joined contents) bytes in (
+    let whole : length (joined (contents ++ bytes ∷ [])) ≡ length (joined contents) + length bytes = length-joined_more contents bytes in (
       contents ++ bytes ∷ [],
       ds ++ adds.2,
       record {
         count = omega (arith, had.count, length-append contents (bytes ∷ []));
         told = told_more names files contents i name bytes had.count is had.told adds.4;
         sum = record {
-          good = record { each = each_more contents bytes had.sum.good.each (adds.2, adds.5); within = omega arith };
+          good = good_more contents bytes had.sum.good (adds.2, adds.5) (omega arith);
           file = subst (λ (z : List ℕ). IsFile z (ds ++ adds.2)) (sym (joined_more contents bytes)) (files_joined (joined contents) bytes ds adds.2 had.sum.file adds.5);
-          all = gathered_more ds adds.2 old new had.sum.all adds.6;
+          all = adds.6 ds had.sum.all;
         };
         room = omega arith;
       },
@@ -96,21 +105,26 @@ all_so_far feed files i left gathered end so_far out = (
   so_far.2.sum,
 )
 
+-- the file after so many that are good
+pub next_file : (names : Option Names) (files contents : List (List ℕ)) (i : ℕ) (name : List ℕ) (file : ℕ)
+    → slice_get files i ≡ Some name → file ≡ i + 1 → length contents ≡ i → AreContents names (take i files) contents → AreGood contents → IsAt names files file contents name
+next_file names files contents i name file is number count told good = record {
+  number = omega (arith, number, count);
+  name_there = ap (slice_get files) count ∙ is;
+  told = subst (λ (k : ℕ). AreContents names (take k files) contents) (sym count) told;
+  good = good;
+}
+
 at_file : (names : Option Names) (files : List (List ℕ)) (i left : ℕ) (name : List ℕ) (gathered : Gathered) (contents ds : List (List ℕ)) (file : ℕ)
     → slice_get files i ≡ Some name → file ≡ i + 1 → ReadSoFar names files i left contents ds gathered → IsAt names files file contents name
-at_file names files i left name gathered contents ds file is number had = record {
-  number = omega (arith, number, had.count);
-  name_there = ap (slice_get files) had.count ∙ is;
-  told = subst (λ (k : ℕ). AreContents names (take k files) contents) (sym had.count) had.told;
-  good = had.sum.good;
-}
+at_file names files i left name gathered contents ds file is number had = next_file names files contents i name file is number had.count had.told had.sum.good
 
 too_large : (names : Option Names) (contents : List (List ℕ)) (name : List ℕ) (left : ℕ) → left + length (joined contents) ≡ most_bytes → IsLongerFile left names name → IsTooLarge names contents name
 too_large None contents name left room longer = tt
 too_large (Some names) contents name left room longer = omega arith
 
 -- the one file of a list
-alone : (names : Option Names) (name : List ℕ) (file : ℕ) → file ≡ 1 → IsAt names (name ∷ []) file [] name
+pub alone : (names : Option Names) (name : List ℕ) (file : ℕ) → file ≡ 1 → IsAt names (name ∷ []) file [] name
 alone names name file is = record { number = is; name_there = refl; told = no_contents names; good = record { each = tt; within = omega arith } }
 
 -- a file that can't be gathered

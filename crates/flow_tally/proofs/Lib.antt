@@ -7,6 +7,7 @@ pub mod OutcomeDrive
 pub mod OutcomeFirstFile
 pub mod OutcomeOne
 pub mod OutcomeReport
+pub mod OutcomeSome
 pub mod Outcomes
 pub mod Parse
 pub mod Rules

@@ -4,10 +4,11 @@ use Rattle.std.specs.declared.alloc.Global.{Global}
 use Rattle.wire_ports.specs.Ports.{Names, HasRisen, IsStartFailure, bytes_under}
 use Rattle.wire_ports.specs.declared.feed.FailedIn.TheVariants.{Read}
 use Rattle.netflow_five.specs.File.{joined, IsFile, IsBad}
-use Rattle.netflow_five.specs.declared.refused.Refused.{Refused}
-use Rattle.netflow_five.specs.declared.refused.Refused.TheVariants as refused
+use Rattle.netflow_five.specs.Next.{CameTo}
+use Rattle.netflow_five.specs.declared.file_end.FileEnd.{FileEnd}
+use Rattle.netflow_five.specs.declared.file_end.FileEnd.TheVariants as ending
 use Rattle.flow_tally.specs.Input.{AreContents, AreGood, IsBytesOf, FeedShown, IsReadOut, StopsAt}
-use Rattle.flow_tally.specs.Gathered.{HasGathered, Adds}
+use Rattle.flow_tally.specs.Gathered.{HasGathered}
 use Rattle.flow_tally.specs.declared.status.Status.{Status}
 use Rattle.flow_tally.specs.declared.status.Status.TheVariants.{OpenFault, ReadFault, BadDatagram, InputTooLarge, NoMemory}
 use Rattle.flow_tally.specs.declared.gathered.Gathered.{Gathered}
@@ -29,7 +30,8 @@ Reads most feed name file (Err _) = ⊥
 -- what the reading and decoding of a file gives; at Ok how many bytes it has
 abbrev pub AddsFile : ℕ → FeedShown → List ℕ → ℕ → Gathered → Gathered → Result ℕ Status → Type 0
 AddsFile most feed name file old new (Ok n) = (n ≤ most) × (bytes : List ℕ) × (ds : List (List ℕ))
-    × (n ≡ length bytes) × IsBytesOf feed.names name bytes × IsFile bytes ds × Adds ds old new × IsReadOut file feed
+    × (n ≡ length bytes) × IsBytesOf feed.names name bytes × IsFile bytes ds
+    × CameTo (λ gathered collected. HasGathered collected gathered) old ds new × IsReadOut file feed
 AddsFile most feed name file old new (Err (BadDatagram number offset cause)) = (number ≡ file) × (bytes : List ℕ)
     × IsBytesOf feed.names name bytes × (length bytes ≤ most) × IsBad bytes offset cause × StopsAt file feed
 AddsFile most feed name file old new (Err status) = Reads most feed name file (Err status)
@@ -45,7 +47,9 @@ abbrev pub HasRead : FeedShown → List (List ℕ) → Gathered → Type 0
 HasRead feed files gathered = IsReadOut (length files) feed
     × (contents : List (List ℕ)) × (ds : List (List ℕ)) × AreContents feed.names files contents × IsGatheredOf contents ds gathered
 
--- the status of a file that was refused
-abbrev pub IsStatusOf : ℕ → Refused → Status → Type 0
-IsStatusOf file (refused.Malformed offset cause) status = status ≡ BadDatagram file offset cause
-IsStatusOf file refused.NoMemory status = status ≡ NoMemory
+-- the status of a file that wasn't added
+abbrev pub status_of : ℕ → FileEnd → Status
+status_of file ending.Failed = ReadFault file
+status_of file ending.TooLarge = InputTooLarge file
+status_of file (ending.Malformed offset cause) = BadDatagram file offset cause
+status_of file ending.NoMemory = NoMemory

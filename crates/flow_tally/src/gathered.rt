@@ -1,13 +1,9 @@
-ghost use Rattle.std.specs.Prelude.{◌≡◌, ◌+◌, ◌<◌, ◌≤◌, ◌^◌, [], ◌∷◌, List, ℕ, length, IfErr, OnOk, vec_capacity, vec_len};
-ghost use Rattle.netflow_five.specs.Datagram.{count_of};
-ghost use Rattle.netflow_five.specs.File.{IsFile, IsRefusal};
+ghost use Rattle.std.specs.Prelude.{◌+◌, ◌<◌, ◌^◌, [], ◌∷◌, OnOk};
 
 use flow_fold::{Key, Value, key_of, value_of};
-use netflow_five::{Datagram, Datagrams, Refused};
+use netflow_five::{Collector, Datagram};
 use std::alloc::Global;
-
-/// The bytes of a record.
-const RECORD_BYTES: usize = 48;
+use wire_ports::NoMemory;
 
 /// What was gathered so far: the keys and values of the records, and how many datagrams they came in.
 #[derive(Drop)]
@@ -29,36 +25,30 @@ impl Gathered {
         }
     }
 
-    /// Adds the records of a datagram, for which there is room.
-    fn add_datagram(&mut self, datagram: &Datagram<'_>)
-        requires room { vec_len self.old.pairs + count_of datagram.now.bytes.now ≤ vec_capacity self.old.pairs }
-        requires datagrams { self.old.datagrams + 1 < 2 ^ 64 }
-        ensures adds { Adds (datagram.now.bytes.now ∷ []) self.old self.new }
-        ensures count { vec_len self.new.pairs ≡ vec_len self.old.pairs + count_of datagram.now.bytes.now }
-        ensures capacity { vec_capacity self.new.pairs ≡ vec_capacity self.old.pairs }
+    /// Adds the records of a datagram.
+    fn add_datagram(&mut self, datagram: &Datagram<'_>) -> Result<(), NoMemory>
+        requires { self.old.datagrams + 1 < 2 ^ 64 }
+        ensures { OnOk result (Adds (datagram.now.bytes.now ∷ []) self.old self.new) }
     {
+        self.pairs.reserve(datagram.count() as usize)?;
         for i in 0..datagram.count() {
             let flow = datagram.flow(i);
             self.pairs.push_reserved((key_of(&flow), value_of(&flow)));
         }
         self.datagrams += 1;
+        Ok(())
     }
+}
 
-    /// Adds the records of a file. Room for them is made at once, from the number of its bytes.
-    pub fn add_file(&mut self, bytes: &[u8]) -> Result<(), Refused>
-        requires datagrams { self.old.datagrams + length bytes.now < 2 ^ 64 }
-        ensures adds { OnOk result ((ds : List (List ℕ)) × IsFile bytes.now ds × Adds ds self.old self.new) }
-        ensures datagrams { OnOk result (self.new.datagrams ≤ self.old.datagrams + length bytes.now) }
-        ensures err { IfErr result (IsRefusal bytes.now) }
-    {
-        self.pairs.reserve(bytes.len() / RECORD_BYTES)?;
-        let mut datagrams = Datagrams::new(bytes);
-        'file: loop {
-            match datagrams.next() {
-                Ok(Some(datagram)) => self.add_datagram(&datagram),
-                Ok(None) => return Ok(()),
-                Err(refused) => return Err(refused),
-            }
-        }
+impl Collector for Gathered {
+    ghost use Rattle.flow_tally.specs.Gathered.{HasGathered};
+
+    ghost holds = { λ gathered ds. HasGathered ds gathered };
+
+    ghost span = { λ gathered. gathered.datagrams };
+
+    fn add(&mut self, datagram: &Datagram<'_>) -> Result<(), NoMemory> {
+        self.add_datagram(datagram)?;
+        Ok(())
     }
 }

@@ -1,13 +1,13 @@
 ghost use Rattle.std.specs.Prelude.{◌≡◌, ◌+◌, ◌<◌, ◌≤◌, ◌^◌, map, IfOk, MatchResult};
 ghost use Rattle.std.specs.String.{string_bytes};
 ghost use Rattle.flow_tally.specs.Input.{feed_shown, RefusesFiles};
-ghost use Rattle.flow_tally.specs.Reading.{Reads, AddsFile, HasRead, IsStatusOf};
+ghost use Rattle.flow_tally.specs.Reading.{Reads, AddsFile, HasRead, status_of};
 
 use crate::gathered::Gathered;
 use crate::status::Status;
-use netflow_five::Refused;
+use netflow_five::{FileEnd, collect_file};
 use std::alloc::Global;
-use wire_ports::{Feed, ReadEnd, read_whole};
+use wire_ports::{Feed, ReadEnd, Window, read_whole};
 
 /// The most bytes of all files together.
 pub(crate) const MOST_BYTES: usize = 1 << 28;
@@ -36,24 +36,26 @@ pub(crate) fn read_file<F: Feed>(
     }
 }
 
-/// A file's refusal as a status.
-fn refused_file(file: u32, refused: Refused) -> Status
-    ensures { IsStatusOf file refused result }
+/// Why a file wasn't added, as a status.
+fn refused_file(file: u32, end: FileEnd) -> Status
+    ensures { result ≡ status_of file end }
 {
-    match refused {
-        Refused::Malformed { offset, cause } => Status::BadDatagram {
+    match end {
+        FileEnd::Failed => Status::ReadFault { file },
+        FileEnd::TooLarge => Status::InputTooLarge { file },
+        FileEnd::Malformed { offset, cause } => Status::BadDatagram {
             file,
             offset,
             cause,
         },
-        Refused::NoMemory => Status::NoMemory,
+        FileEnd::NoMemory => Status::NoMemory,
     }
 }
 
-/// Reads a file of at most `most` bytes, adds it to the tally, and tells how many bytes it has.
+/// Adds a file of at most `most` bytes to the tally while it is read, and tells how many bytes it has.
 fn add_file<F: Feed>(
-    alloc: Global,
     feed: &mut F,
+    window: &mut Window,
     gathered: &mut Gathered,
     file: u32,
     name: &str,
@@ -66,10 +68,12 @@ fn add_file<F: Feed>(
     ensures files { F.files feed.new ≡ F.files feed.old }
     ensures later { F.faults feed.old ≤ F.faults feed.new }
 {
-    let bytes = read_file(alloc, feed, file, name, most)?;
-    match gathered.add_file(&bytes) {
-        Ok(()) => Ok(bytes.len()),
-        Err(refused) => Err(refused_file(file, refused)),
+    if feed.start(file, name).is_err() {
+        return Err(Status::OpenFault { file });
+    }
+    match collect_file(feed, window, gathered, most) {
+        Ok(n) => Ok(n),
+        Err(end) => Err(refused_file(file, end)),
     }
 }
 
@@ -84,6 +88,9 @@ pub fn read_files<F: Feed>(
     ensures files { F.files feed.new ≡ F.files feed.old }
     ensures later { F.faults feed.old ≤ F.faults feed.new }
 {
+    let Ok(mut window) = Window::new(alloc) else {
+        return Err(Status::NoMemory);
+    };
     let mut gathered = Gathered::new(alloc);
     let mut left = MOST_BYTES;
     let mut file: u32 = 0;
@@ -93,7 +100,7 @@ pub fn read_files<F: Feed>(
             Some(next) => next,
             None => return Err(Status::NoMemory),
         };
-        match add_file(alloc, feed, &mut gathered, file, name.as_str(), left) {
+        match add_file(feed, &mut window, &mut gathered, file, name.as_str(), left) {
             Ok(n) => left -= n,
             Err(status) => return Err(status),
         }

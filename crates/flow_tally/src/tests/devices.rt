@@ -101,3 +101,45 @@ fn devices(rt: HostRuntime) -> Result<(), Fail> {
         (status, "", ""),
     )
 }
+
+/// The status of a first file that has another version at this offset.
+fn nine_at(offset: usize) -> Status {
+    Status::BadDatagram {
+        file: 1,
+        offset,
+        cause: Malformed::Version { found: 9 },
+    }
+}
+
+#[test]
+fn bad_datagrams_in_pieces(rt: HostRuntime) -> Result<(), Fail> {
+    device(
+        &rt,
+        "tally a",
+        &[Part::One, Part::Earlier, Part::Nine, Part::One],
+        NONE,
+        (
+            nine_at(144),
+            "",
+            "flow_tally: file 1 offset 144: version 9\n",
+        ),
+    )?;
+    device(
+        &rt,
+        "tally a",
+        &[Part::Nine, Part::One, Part::One],
+        NONE,
+        (nine_at(0), "", "flow_tally: file 1 offset 0: version 9\n"),
+    )?;
+    device(
+        &rt,
+        "tally a",
+        &[Part::Nine, Part::One, Part::One],
+        Failing { feed: 5, ..NONE },
+        (
+            Status::ReadFault { file: 1 },
+            "",
+            "flow_tally: file 1 cannot be read\n",
+        ),
+    )
+}

@@ -25,17 +25,17 @@ loop-name-preserved g c =
     let there : slice_get (map string_bytes c.args.files.now) index ≡ Some (string_bytes c.name-item.result) =
     get-map string_bytes c.args.files.now index c.name-item.result c.loop-name-test.true c.name-item.is in
     let number : c.in-Some.next ≡ index + 1 = omega (arith, c.in-Some.ensures, c.loop-name.invariant.number) in
-    let adds : AddsFile c.loop-name.left shown (string_bytes c.name-item.result) c.in-Some.next c.loop-name.gathered c.add_file.new.gathered (Ok c.in-Ok.n) =
-    subst (λ (p : FeedShown × List ℕ). AddsFile c.loop-name.left p.0 p.1 c.in-Some.next c.loop-name.gathered c.add_file.new.gathered (Ok c.in-Ok.n))
+    let adds : AddsFile c.loop-name.left shown (string_bytes c.name-item.result) c.in-Some.next c.loop-name.gathered c.add_file.new.gathered (Ok c.in-Ok-add_file.n) =
+    subst (λ (p : FeedShown × List ℕ). AddsFile c.loop-name.left p.0 p.1 c.in-Some.next c.loop-name.gathered c.add_file.new.gathered (Ok c.in-Ok-add_file.n))
     (λ i. (
       record shown { names = c.loop-name.invariant.files i; before = c.loop-name.invariant.out.no_fault i; failed_before = c.loop-name.invariant.out.no_failure i },
       c.as_str.ensures.value i,
-    )) c.in-Ok.ensures.file in
+    )) c.in-Ok-add_file.ensures.file in
     record {
-      read = file_so_far shown _ index c.loop-name.left c.in-Ok.n _ c.in-Some.next c.loop-name.gathered c.add_file.new.gathered there c.loop-name.invariant.read adds;
+      read = file_so_far shown _ index c.loop-name.left c.in-Ok-add_file.n _ c.in-Some.next c.loop-name.gathered c.add_file.new.gathered there c.loop-name.invariant.read adds;
       number = number;
-      datagrams = omega (arith, c.in-Ok.ensures.datagrams, c.loop-name.invariant.datagrams, c.in-Ok.ensures.file.0);
-      files = c.in-Ok.ensures.files ∙ c.loop-name.invariant.files;
+      datagrams = omega (arith, c.in-Ok-add_file.ensures.datagrams, c.loop-name.invariant.datagrams, c.in-Ok-add_file.ensures.file.0);
+      files = c.in-Ok-add_file.ensures.files ∙ c.loop-name.invariant.files;
       out = subst (λ (n : ℕ). IsReadOut n shown) number adds.7;
     }
 

@@ -9,12 +9,13 @@ use Rattle.flow_tally.proofs.Gathering.{pairs_none, pairs_more, pairs_whole}
 use Rattle.flow_tally.proofs.gathered.Gathered.add_datagram.Goals as goal
 
 pub loop-i-init : goal.loop-i-init
-loop-i-init c = record {
-  pairs = sym (ap (λ (z : Flows). c.args.self.now.pairs.items ++ z) pairs_none ∙ append-nil c.args.self.now.pairs.items);
-  count = omega arith;
-  capacity = refl;
-  datagrams = refl;
-}
+loop-i-init c =
+    let before = c.args.self.now.pairs.items in
+    record {
+      pairs = c.in_ok-reserve.ensures.items ∙ sym (ap (λ (z : Flows). before ++ z) pairs_none ∙ append-nil before);
+      room = omega (arith, c.in_ok-reserve.ensures.ok, c.count.ensures);
+      datagrams = refl;
+    }
 
 pub loop-i-preserved : goal.loop-i-preserved
 loop-i-preserved c =
@@ -27,13 +28,12 @@ loop-i-preserved c =
           ∙ ap (λ (z : Flows). z ++ (record_key r, record_value r) ∷ []) c.loop-i.invariant.pairs
           ∙ append_assoc before (pairs_of (take c.loop-i.i (records_of d))) ((record_key r, record_value r) ∷ [])
           ∙ ap (λ (z : Flows). before ++ z) (sym (pairs_more d c.loop-i.i r c.flow-flow.ensures));
-      count = omega (arith, c.push_reserved.ensures.len, c.loop-i.invariant.count);
-      capacity = c.push_reserved.ensures.capacity ∙ c.loop-i.invariant.capacity;
+      room = omega (arith, c.push_reserved.ensures.len, c.push_reserved.ensures.capacity, c.loop-i.invariant.room);
       datagrams = c.loop-i.invariant.datagrams;
     }
 
-pub returns-clause-adds : goal.returns-clause-adds
-returns-clause-adds c =
+pub returns : goal.returns
+returns c =
     let d = c.args.datagram.now.bytes.now in
     let all : c.loop-i.i ≡ count_of d = omega (arith, c.count-i-end.ensures, c.loop-i-test.false, c.loop-i.auto.i-end) in
     record {
