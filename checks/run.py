@@ -132,7 +132,10 @@ def bad_files(checks: Checks, one: str, data: bytes) -> None:
     checks.ends("one byte too many", ["tally", one, large, "missing"], 8, err="flow_tally: input too large at file 2\n")
     os.truncate(os.path.join(checks.folder, large), MOST_BYTES - 72)
     checks.ends("as many bytes as may be", ["tally", one, large], 6, err="flow_tally: file 2 offset 0: version 0\n")
-    checks.ends("little memory", ["tally", large], 10, err="flow_tally: out of memory\n", before=little_memory)
+    checks.ends("a large file and little memory", ["tally", large], 6, err="flow_tally: file 1 offset 0: version 0\n", before=little_memory)
+    checks.ends("a large script and little memory", ["drive", large], 10, err="flow_tally: out of memory\n", before=little_memory)
+    many = checks.file("many", fold.datagram([data[24:]] * 30) * 40_000)
+    checks.ends("many records and little memory", ["tally", many], 10, err="flow_tally: out of memory\n", before=little_memory)
 
 
 def bad_streams(checks: Checks, one: str) -> None:
