@@ -1,7 +1,7 @@
 -- Lists of nodes in which the order says nothing: how often a node stands in one.
 use Rattle.std.proofs.Common.{◌≡◌, ◌≢◌, ℕ, ◌+◌, ◌-◌, ◌<◌, ◌≤◌, suc, zero, true, false, ◌||◌, List, [], ◌∷◌, ◌++◌}
 use Rattle.std.proofs.Common.{length, take, eqb, cond, eq-eqb, ne_eqb, get_or, set, refl, sym, ap, ◌∙◌, subst, arith, ⊎_elim, length-take, length-set}
-use Rattle.std.proofs.lemmas.Bool.{eqb-true, cases_Bool, cases_eq, or_cases, or_parts, false≢true}
+use Rattle.std.proofs.lemmas.Bool.{eqb-true, cases_Bool, cases_eq, or_cases, or_parts, false≢true, false_from_ne_true}
 use Rattle.std.proofs.lemmas.List.{take_more}
 use Rattle.std.proofs.lemmas.List.Sums.{sum_by-cons, sum_by-swap_remove}
 use Rattle.std.specs.List.{list_any, sum_by, swap_remove}
@@ -40,6 +40,14 @@ times_once n (x ∷ xs) once = ⊎_elim
     (λ e. omega (arith, one_same n x (eq-eqb x n e), times_none n xs (ap (has xs) (sym e) ∙ once.0)))
     (λ e. omega (arith, one_else n x (ne_eqb x n e), times_once n xs once.1))
     (cases_eq x n)
+
+-- numbers that stand at most once in a list
+pub once_from_times : (xs : List ℕ) → ((n : ℕ) → times n xs ≤ 1) → Once xs
+once_from_times [] few = tt
+once_from_times (x ∷ xs) few = (
+  false_from_ne_true (has xs x) (λ h. absurd (omega (arith, few x, one_same x x (eq-eqb x x refl), times_has x xs h))),
+  once_from_times xs (λ n. omega (arith, few n)),
+)
 
 -- a node that is listed once is not both free and held
 pub one_list : (n : ℕ) (own free holding : List ℕ) → times n free + times n holding ≡ times n own → Once own → has free n ≡ true → has holding n ≡ true → ⊥

@@ -1,15 +1,14 @@
 -- Fronts for inserts: the new record's node comes first, and beside other records a copy of the claimed first node comes after it.
 use Rattle.std.proofs.Common.{◌≡◌, ◌≢◌, ◌∙◌, ℕ, ◌+◌, ◌-◌, ◌<◌, suc, true, false, cond, eqb, ne_eqb, List, [], ◌∷◌, ◌++◌, length, take, drop, get_or}
 use Rattle.std.proofs.Common.{refl, sym, ap, subst, arith, ⊎_elim}
-use Rattle.std.proofs.Math.Seq.{get_or-append_seam, take-append_seam}
-use Rattle.std.proofs.lemmas.Bool.{cases_Bool, cond-false, eqb-true, false_from_ne_true, or_cases}
+use Rattle.std.proofs.lemmas.Bool.{cases_Bool, eqb-true, false_from_ne_true, or_cases}
 use Rattle.seat_history.specs.declared.words.TheConstants.{WIDTH}
 use Rattle.step_rules.proofs.Bags.{one_there}
-use Rattle.step_rules.proofs.Edits.{edit_records, records_kept, records_of-append}
-use Rattle.step_rules.proofs.Pages.{is_end, page_tells}
+use Rattle.step_rules.proofs.Fronting.{ends_not, front_is, next_is, next_word, record_words}
+use Rattle.step_rules.proofs.Pages.{first_record, is_end, page_tells}
 use Rattle.step_rules.specs.Claims.{BACK, IsClaim}
-use Rattle.step_rules.specs.Fronts.{IsFront, front_of, rest_of}
-use Rattle.step_rules.specs.Records.{IsCounted, put, record_in, records_of}
+use Rattle.step_rules.specs.Fronts.{IsFront, front_of}
+use Rattle.step_rules.specs.Records.{put, record_in, records_of}
 use Rattle.step_rules.specs.Views.{claim_of, claimed_records, followed, words_in}
 use Rattle.step_rules.specs.World.{END, Linked, Once, has, link, next_of, nodes_of}
 use Rattle.step_rules.specs.declared.layout.TheConstants.{NODE_WIDTH}
@@ -32,25 +31,6 @@ pub record PutsBefore (n m head : ℕ) (rec : List ℕ) (v : View) : Type 0 wher
   pub alone : is_end (claim_of BACK v).image ≡ true → words_in v.own n ≡ rec ++ 0 ∷ []
   pub before : is_end (claim_of BACK v).image ≡ false → GoesBefore n m rec (claim_of BACK v).image v.own
 
--- the words of a node with this record and this next word
-next_word : (ws rec : List ℕ) (y : ℕ) → ws ≡ rec ++ y ∷ [] → length rec ≡ WIDTH → get_or ws (NODE_WIDTH - 1) 0 ≡ y
-next_word ws rec y is wide = ap (λ l. get_or l (NODE_WIDTH - 1) 0) is ∙ (ap (λ i. get_or (rec ++ y ∷ []) i 0) (sym wide) ∙ get_or-append_seam rec y [] 0)
-
-record_words : (ws rec : List ℕ) (y : ℕ) → ws ≡ rec ++ y ∷ [] → length rec ≡ WIDTH → record_in ws ≡ rec
-record_words ws rec y is wide = ap (take WIDTH) is ∙ (ap (λ i. take i (rec ++ y ∷ [])) (sym wide) ∙ take-append_seam rec (y ∷ []))
-
-one_more : (h : Held) (r : List Held) → is_end h.words ≡ false → records_of (h ∷ r) ≡ record_in h.words ∷ records_of r
-one_more h r e = cond-false (is_end h.words) (records_of r) (record_in h.words ∷ records_of r) e
-
-not_end : (y : ℕ) → y < END → eqb y END ≡ false
-not_end y low = ne_eqb y END (λ e. absurd (omega arith))
-
-next_is : (ws : List ℕ) (y : ℕ) → get_or ws (NODE_WIDTH - 1) 0 ≡ y → y < END → next_of ws ≡ y
-next_is ws y e low = ap (λ z. cond (eqb z END) 0 z) e ∙ cond-false (eqb y END) 0 y (not_end y low)
-
-ends_not : (ws : List ℕ) (y : ℕ) → get_or ws (NODE_WIDTH - 1) 0 ≡ y → y < END → is_end ws ≡ false
-ends_not ws y e low = ap (λ z. eqb z END) e ∙ not_end y low
-
 module _ {n m head : ℕ} {rec : List ℕ} {v : View} (puts : PutsBefore n m head rec v) where
   abbrev image : List ℕ
   image = (claim_of BACK v).image
@@ -65,16 +45,7 @@ module _ {n m head : ℕ} {rec : List ℕ} {v : View} (puts : PutsBefore n m hea
   of_front : (front : List Held) → front_of n (put rec) v ≡ front → ((j : ℕ) → has (nodes_of front) j ≡ true → has (nodes_of v.own) j ≡ true) → Once (nodes_of front)
       → Linked front (link puts.told.rest 0) → records_of front ≡ rec ∷ take 1 (claimed_records v) → IsFront n (put rec) v
   of_front front is own once linked records =
-      let kept : records_of (rest_of (put rec) v) ≡ drop 1 (claimed_records v) =
-      ap (λ l. records_of (drop 1 l)) puts.told.heads
-      ∙ (records_kept (record { node = head; words = image } ∷ []) puts.told.rest (subst IsCounted puts.told.heads puts.told.counted) (omega arith) ∙ ap (λ l. drop 1 (records_of l)) (sym puts.told.heads)) in
-      let all : records_of (front_of n (put rec) v) ≡ rec ∷ take 1 (claimed_records v) = ap records_of is ∙ records in record {
-        own = subst (λ l. (j : ℕ) → has (nodes_of l) j ≡ true → has (nodes_of v.own) j ≡ true) (sym is) own;
-        once = subst (λ l. Once (nodes_of l)) (sym is) once;
-        linked = subst (λ (z : List Held × List Held). Linked z.0 (link z.1 0)) (λ i. (sym is i, sym (ap (drop 1) puts.told.heads) i)) linked;
-        records = all;
-        whole = records_of-append (front_of n (put rec) v) (rest_of (put rec) v) ∙ ((λ i. all i ++ kept i) ∙ edit_records (claimed_records v) (put rec) tt);
-      }
+      front_is front puts.told tt is own once (subst (λ (l : List Held). Linked front (link l 0)) (sym (ap (drop 1) puts.told.heads)) linked) records
 
   -- into an empty bucket
   pub none_there : is_end image ≡ true → claimed_records v ≡ []
@@ -91,7 +62,7 @@ module _ {n m head : ℕ} {rec : List ℕ} {v : View} (puts : PutsBefore n m hea
       (λ j h. subst (λ i. has (nodes_of v.own) i ≡ true) (one_there n j h) puts.mine)
       (refl, tt)
       (next_is ws 0 next (omega arith) ∙ (sym (ap (λ b. cond b 0 (get_or image (NODE_WIDTH - 1) 0)) end) ∙ image_next), tt)
-      (one_more (record { node = n; words = ws }) [] (ends_not ws 0 next (omega arith)) ∙ (λ i. record_words ws rec 0 words puts.wide i ∷ take 1 (sym none i)))
+      (first_record (record { node = n; words = ws }) [] (ends_not ws 0 next (omega arith)) ∙ (λ i. record_words ws rec 0 words puts.wide i ∷ take 1 (sym none i)))
 
   -- beside other records
   some_there : is_end image ≡ false → (rest : List (List ℕ)) × (claimed_records v ≡ record_in image ∷ rest)
@@ -121,8 +92,8 @@ module _ {n m head : ℕ} {rec : List ℕ} {v : View} (puts : PutsBefore n m hea
       (or_cases (eqb n j) (has (m ∷ []) j) h))
       (false_from_ne_true (has (m ∷ []) n) (λ h. g.apart (sym (one_there m n h))), (refl, tt))
       (next_is ws (m + 1) next g.low ∙ omega arith, (image_next, tt))
-      (one_more (record { node = n; words = ws }) (record { node = m; words = image } ∷ []) (ends_not ws (m + 1) next g.low)
-      ∙ ((λ i. record_words ws rec (m + 1) g.first puts.wide i ∷ one_more (record { node = m; words = image }) [] end i) ∙ ap (λ l. rec ∷ take 1 l) (sym found.1)))
+      (first_record (record { node = n; words = ws }) (record { node = m; words = image } ∷ []) (ends_not ws (m + 1) next g.low)
+      ∙ ((λ i. record_words ws rec (m + 1) g.first puts.wide i ∷ first_record (record { node = m; words = image }) [] end i) ∙ ap (λ l. rec ∷ take 1 l) (sym found.1)))
 
   pub insert_front : IsFront n (put rec) v
   insert_front = ⊎_elim into_empty beside (cases_Bool (is_end image))

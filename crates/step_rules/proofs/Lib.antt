@@ -10,6 +10,7 @@ pub mod Edits
 pub mod EmptyBucket
 pub mod Exchanging
 pub mod Frames
+pub mod Fronting
 pub mod Fronts
 pub mod Handing
 pub mod Inserting
@@ -19,6 +20,7 @@ pub mod LastChains
 pub mod LastInserts
 pub mod Lawfuls
 pub mod Lines
+pub mod MayChange
 pub mod Moments
 pub mod Notes
 pub mod OneOrder

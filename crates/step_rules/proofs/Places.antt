@@ -28,6 +28,12 @@ at_take (x ∷ xs) zero i a e = absurd (some-ne-none a (sym e))
 at_take (x ∷ xs) (suc n) zero a e = e
 at_take (x ∷ xs) (suc n) (suc i) a e = at_take xs n i a e
 
+-- the first places up to one that is there
+pub take_to : {A : Type 0} (l : List A) (i : ℕ) (a : A) → get_elem? l i ≡ some a → take (suc i) l ≡ take i l ++ a ∷ []
+take_to [] i a e = absurd (some-ne-none a (sym e))
+take_to (x ∷ xs) zero a e = ap (λ y. y ∷ []) (some-injective x a e)
+take_to (x ∷ xs) (suc i) a e = ap (λ l. x ∷ l) (take_to xs i a e)
+
 -- an element of two lists in a row stands in the first, or after it in the second
 pub at_append : {A : Type 0} (l m : List A) (i : ℕ) (a : A) → get_elem? (l ++ m) i ≡ some a → (get_elem? l i ≡ some a) ⊎ ((k : ℕ) × (i ≡ length l + k) × (get_elem? m k ≡ some a))
 at_append [] m i a e = inr (i, omega arith, e)

@@ -1,12 +1,13 @@
 -- What holds of a seat's free and held nodes, and of the words of its own nodes as they are stored.
 use Rattle.std.proofs.Common.{◌≡◌, ◌≢◌, ℕ, ◌-◌, ◌<◌, true, false, List, [], ◌∷◌, length, map, set, get_or, eqb, cond, eq-eqb, ne_eqb, refl, sym, ap, ◌∙◌, subst}
 use Rattle.std.proofs.Common.{arith, ⊎_elim}
-use Rattle.std.proofs.lemmas.Bool.{cases_eq, cond-true, cond-false, false≢true, false_from_ne_true}
+use Rattle.std.proofs.lemmas.Bool.{cases_eq, cond-true, cond-false, false_from_ne_true}
 use Rattle.step_rules.proofs.Bags.{has_times, one_list, times_has}
 use Rattle.step_rules.proofs.Keeps.Stores.{stored_else, stored_here}
 use Rattle.step_rules.proofs.Owns.{words_at}
 use Rattle.step_rules.proofs.Sets.{at_has, has_from}
 use Rattle.step_rules.specs.SeatData.{IsSeat, SeatData}
+use Rattle.step_rules.specs.Steps.{IsOwn}
 use Rattle.step_rules.specs.Views.{stored_in, words_in}
 use Rattle.step_rules.specs.World.{has, nodes_of}
 use Rattle.step_rules.specs.declared.layout.TheConstants.{NODE_WIDTH}
@@ -16,19 +17,18 @@ pub has_last : (xs : List ℕ) (n : ℕ) → 0 < length xs → n ≡ get_or xs (
 has_last xs n some e = subst (λ m. has xs m ≡ true) (sym e) (has_from xs (length xs - 1) 0 (omega arith))
 
 module _ (seat : SeatData) (is : IsSeat seat) (n : ℕ) where
-  pub free_own : has seat.free n ≡ true → has (nodes_of seat.view.own) n ≡ true
+  free_own : has seat.free n ≡ true → has (nodes_of seat.view.own) n ≡ true
   free_own h = has_times n (nodes_of seat.view.own) (omega (arith, is.lists n, times_has n seat.free h))
 
   pub held_own : has seat.holding n ≡ true → has (nodes_of seat.view.own) n ≡ true
   held_own h = has_times n (nodes_of seat.view.own) (omega (arith, is.lists n, times_has n seat.holding h))
 
+  pub is_own : IsOwn n seat → has (nodes_of seat.view.own) n ≡ true
+  is_own = ⊎_elim free_own held_own
+
   -- a free node isn't held
   pub free_not_held : has seat.free n ≡ true → has seat.holding n ≡ false
   free_not_held h = false_from_ne_true (has seat.holding n) (λ g. one_list n (nodes_of seat.view.own) seat.free seat.holding (is.lists n) is.sound.own_once h g)
-
-  -- a seat that holds a node made a step
-  pub held_used : has seat.holding n ≡ true → seat.fresh ≡ false
-  held_used h = false_from_ne_true seat.fresh (λ f. false≢true (sym (ap (λ l. has l n) (is.unused f).holding) ∙ h))
 
   -- an own node has all its words
   pub own_wide : has (nodes_of seat.view.own) n ≡ true → length (words_in seat.view.own n) ≡ NODE_WIDTH

@@ -18,6 +18,7 @@ use Rattle.step_rules.proofs.Advance.{tells_else}
 use Rattle.step_rules.proofs.Bags.{has_times, one_list, times-append, times_has, times_none}
 use Rattle.step_rules.proofs.Keeps.Claiming.{announced_word}
 use Rattle.step_rules.proofs.Keeps.Stores.{stored_nodes}
+use Rattle.step_rules.proofs.Pools.{is_own}
 use Rattle.step_rules.proofs.Records.{held_longer, holding_after, stood_holds}
 use Rattle.step_rules.proofs.Silent.{Quiet, no_claims_quiet, none_announced}
 use Rattle.step_rules.proofs.Stocks.{stock_within}
@@ -29,8 +30,9 @@ use Rattle.step_rules.specs.Kinds.Claiming.{Rechecks}
 use Rattle.step_rules.specs.Kinds.Walking.{WalkRechecks}
 use Rattle.step_rules.specs.Lawful.{held_by}
 use Rattle.step_rules.specs.Layout.{cells, nodes}
-use Rattle.step_rules.specs.SeatData.{IsFresh, IsScan, IsTied, NoneAnnounced, SeatData, claim_words, holds_record, room_of}
+use Rattle.step_rules.specs.SeatData.{IsFresh, IsScan, IsSeat, IsTied, NoneAnnounced, SeatData, claim_words, holds_record, room_of}
 use Rattle.step_rules.specs.Sound.{Sound}
+use Rattle.step_rules.specs.Steps.{IsOwn}
 use Rattle.step_rules.specs.Views.{announced, announced_view, claim_of, claimed_view, cleared_view, loaded_view, looked_view, number, silent, standing, stood_view, stored_view, walked_claim}
 use Rattle.step_rules.specs.Views.{walked_view}
 use Rattle.step_rules.specs.World.{has, nodes_of}
@@ -128,6 +130,14 @@ IsWhole s = WholeAt s s.inner.me
 -- a seat as contracts see it
 abbrev pub data_of : Inside → SeatData
 data_of s = record { object = s.inner.table_id; view = s.inner.me.0; free = s.free.items; holding = s.holding.items; noted = s.noted.items; first = s.first; fresh = s.fresh }
+
+-- what holds of every seat, from what its invariant says
+pub lawful : (s : Inside) → IsWhole s → IsSeat (data_of s)
+lawful s whole = let t = whole.0 in record { sound = t.sound; lists = t.lists; long = t.long; own_free = t.own_free; unused = t.fresh }
+
+-- a free or held node is an own one
+pub own_of : (s : Inside) (n : ℕ) {seat : SeatData} → IsWhole s → data_of s ≡ seat → IsOwn n seat → has (nodes_of s.inner.me.0.own) n ≡ true
+own_of s n whole is own = is_own (data_of s) (lawful s whole) n (subst (IsOwn n) (sym is) own)
 
 -- a step of the seat, after which its lists are these
 pub record Relists (s : Inside) (inner : Seat Call View) (free holding retired : Vec ℕ Global) : Type 0 where

@@ -1,10 +1,10 @@
 -- What an exchange that won leaves of its seat's own numbers and lists.
-use Rattle.std.proofs.Common.{◌≡◌, ◌∙◌, ℕ, ◌+◌, ◌-◌, ◌/◌, ◌<◌, ◌≤◌, true, false, not, cond, eq-eqb, ne_eqb, List, [], ◌∷◌, ◌++◌, Vec, Global, suc, zero, drop}
+use Rattle.std.proofs.Common.{◌≡◌, ◌∙◌, ℕ, ◌+◌, ◌-◌, ◌/◌, ◌<◌, true, false, not, cond, ne_eqb, List, [], ◌∷◌, ◌++◌, Vec, Global, suc, zero, drop}
 use Rattle.std.proofs.Common.{vec_capacity, length, take, filter, refl, sym}
 use Rattle.std.proofs.Common.{ap, arith, inl, ⊎_elim, length-append}
 use Rattle.std.proofs.lemmas.Bool.{cases_Bool, false≢true, false_from_ne_true}
 use Rattle.seat_history.specs.declared.call.Call.{Call}
-use Rattle.step_rules.proofs.Bags.{one_same, one_else, times_has, times_none, times_once}
+use Rattle.step_rules.proofs.Bags.{once_from_times, one_else, times_has, times_none, times_once}
 use Rattle.step_rules.proofs.Fronts.{dropped_some, length-without_all, without_all_at}
 use Rattle.step_rules.proofs.Places.{there_at}
 use Rattle.step_rules.proofs.Records.{won_holds}
@@ -20,18 +20,10 @@ use Rattle.step_rules.specs.SeatData.{claim_words, holds_record, room_of}
 use Rattle.step_rules.specs.Sound.{Sound}
 use Rattle.step_rules.specs.Steps.{DropsNoted}
 use Rattle.step_rules.specs.Views.{claimed_edit, claimed_pages, claimed_records, dropped_of, fresh_of, number, silent, without_all}
-use Rattle.step_rules.specs.World.{Once, has, nodes_of}
+use Rattle.step_rules.specs.World.{has, nodes_of}
 use Rattle.step_rules.specs.declared.view.Claim.{Claim}
 use Rattle.step_rules.specs.declared.view.Held.{Held}
 use Rattle.step_rules.specs.declared.view.View.{View}
-
--- numbers that stand in a list at most once
-once_from_times : (xs : List ℕ) → ((m : ℕ) → times m xs ≤ 1) → Once xs
-once_from_times [] few = tt
-once_from_times (x ∷ xs) few = (
-  false_from_ne_true (has xs x) (λ h. let f = few x in absurd (omega (arith, times_has x xs h, one_same x x (eq-eqb x x refl)))),
-  once_from_times xs (λ m. let f = few m in omega arith),
-)
 
 -- nodes that are taken out, and those that are left
 times_gone : (m : ℕ) (ns : List ℕ) (own : List Held) → has ns m ≡ true → times m (nodes_of (without_all ns own)) ≡ 0

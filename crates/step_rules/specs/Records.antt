@@ -20,6 +20,10 @@ use Rattle.step_rules.specs.declared.view.Held.{Held}
 abbrev pub pair : KeyWords → List ℕ → List ℕ
 pair key val = key.k0 ∷ key.k1 ∷ val
 
+-- the record of the same key with this value
+abbrev pub with_value : List ℕ → List ℕ → List ℕ
+with_value rec val = slice_index rec 0 ∷ slice_index rec 1 ∷ val
+
 -- the number of its key
 abbrev pub key_in : List ℕ → ℕ
 key_in rec = slice_index rec 0 * 2 ^ 64 + slice_index rec 1

@@ -40,6 +40,10 @@ OnlyStepped before now = now ≡ record (stepped now.view before) { noted = now.
 abbrev pub IsClaimed : ℕ → View → Type 0
 IsClaimed n v = (c : ℕ) × (y : Claim) × (get_elem? v.claims c ≡ some y) × On y n
 
+-- the node is one of the seat's own: it is free or held
+abbrev pub IsOwn : ℕ → SeatData → Type 0
+IsOwn n seat = (has seat.free n ≡ true) ⊎ (has seat.holding n ≡ true)
+
 -- the seat may load the node: it holds it, or a claim of it stands on it
 abbrev pub MayLoad : ℕ → SeatData → Type 0
 MayLoad n seat = (has seat.holding n ≡ true) ⊎ IsClaimed n seat.view

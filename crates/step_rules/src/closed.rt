@@ -3,7 +3,7 @@ ghost use Rattle.seat_history.specs.History.{state_at};
 ghost use Rattle.seat_history.specs.Pairs.{ArePairsOf};
 ghost use Rattle.step_rules.specs.Closing.{IsClosed, live_nodes};
 ghost use Rattle.step_rules.specs.Layout.{nodes};
-ghost use Rattle.step_rules.specs.SeatData.{IsOf, is_quiet};
+ghost use Rattle.step_rules.specs.SeatData.{IsOf, IsSeat, is_quiet};
 
 use crate::counts::Counts;
 use crate::last_chains::{Words, read_chain};
@@ -133,6 +133,7 @@ impl Shared {
         requires whole { length seat.view.numbers ≡ self.plan.seats }
         requires quiet { is_quiet seat ≡ true }
         ensures closed { IsClosed seat result }
+        ensures law { IsSeat seat }
     {
         let Shared {
             table,

@@ -1,5 +1,6 @@
 ghost use Rattle.std.specs.Prelude.{◌≡◌, ◌+◌, ◌<◌, ◌≤◌, ◌*◌, ◌-◌, [], IfOk, OnErr, OnOk, length, true, vec_capacity};
 ghost use Rattle.step_rules.specs.Layout.{IsPlan, cells, cells_at, nodes, words};
+ghost use Rattle.step_rules.specs.SeatData.{IsSeat};
 ghost use Rattle.step_rules.specs.Sound.{Sound};
 ghost use Rattle.step_rules.specs.Starts.{Builds, IsBuilt, IsStart, first_next};
 ghost use Rattle.step_rules.specs.Views.{count_up, starting};
@@ -28,6 +29,7 @@ pub enum Building {
 pub fn build(alloc: Global, plan: &Plan) -> Result<(Shared, Seat), Building>
     requires plan { IsPlan plan.now }
     ensures built { Builds plan.now result }
+    ensures law { IfOk result (λ made. IsSeat made.1) }
 {
     let layout = match Layout::of(plan) {
         Ok(layout) => layout,
@@ -47,6 +49,7 @@ fn with_room(alloc: Global, plan: &Plan, layout: &Layout) -> Result<(Shared, Sea
     requires fits { nodes plan.now ≤ MOST_NODES }
     requires layout { layout.now ≡ record { cells = cells plan.now; nodes = nodes plan.now; words = words plan.now } }
     ensures built { IfOk result (λ made. IsBuilt plan.now made.0 made.1) }
+    ensures law { IfOk result (λ made. IsSeat made.1) }
 {
     let cells_start = CLAIMS as usize * plan.seats as usize;
     let (table, inner) = first_table(alloc, plan, layout, cells_start)?;
@@ -159,6 +162,7 @@ fn first_seat(
         × (plan.now.seats * plan.now.share + plan.now.removes * plan.now.seats ≤ vec_capacity retired)
         × (plan.now.seats * plan.now.share + plan.now.removes * plan.now.seats ≤ vec_capacity noted) × (CLAIMS * plan.now.seats ≤ vec_capacity scan_found) }
     ensures seat { result ≡ record { object = inner.table_id; view = starting plan.now; free = free.items; holding = []; noted = []; first = true; fresh = true } }
+    ensures law { IsSeat result }
 {
     Seat {
         inner,

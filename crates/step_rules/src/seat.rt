@@ -140,7 +140,8 @@ impl Seat {
 
     /// How many nodes are held.
     pub fn holding(&self) -> u32
-        ensures { result ≡ length self.now.holding }
+        ensures count { result ≡ length self.now.holding }
+        ensures law { IsSeat self.now }
     {
         self.holding.len() as u32
     }
@@ -155,7 +156,8 @@ impl Seat {
     /// What stands in a claim word of its least number: 0, or a node's number and 1.
     pub fn claim_word(&self, claim: u32) -> u64
         requires { claim < CLAIMS }
-        ensures { result ≡ (claim_of claim self.now.view).word }
+        ensures word { result ≡ (claim_of claim self.now.view).word }
+        ensures law { IsSeat self.now }
     {
         self.claims[claim as usize]
     }
@@ -163,7 +165,8 @@ impl Seat {
     /// A free node.
     pub fn next_free(&self) -> u32
         requires { 0 < length self.now.free }
-        ensures { result ≡ slice_index self.now.free (length self.now.free - 1) }
+        ensures node { result ≡ slice_index self.now.free (length self.now.free - 1) }
+        ensures law { IsSeat self.now }
     {
         self.free[self.free.len() - 1]
     }
@@ -184,13 +187,15 @@ impl Seat {
         requires once { has self.old.noted node ≡ false }
         requires held { length self.old.noted < length self.old.holding }
         ensures noted { self.new ≡ record self.old { noted = self.old.noted ++ node ∷ [] } }
+        ensures law { IsSeat self.new }
     {
         self.noted.push_reserved(node);
     }
 
     /// A step at the claim word Back begins another change, or ends one: no link is noted.
     pub(crate) fn take_notes_back(&mut self, claim: u32)
-        ensures { self.new ≡ unnoted claim self.old }
+        ensures noted { self.new ≡ unnoted claim self.old }
+        ensures law { IsSeat self.new }
     {
         if claim == BACK {
             self.noted.clear();
@@ -204,6 +209,7 @@ impl Seat {
         ensures free { self.new.free ≡ self.old.free ++ node ∷ [] }
         ensures holding { IsWithout node self.old.holding self.new.holding }
         ensures same { self.new ≡ record self.old { free = self.new.free; holding = self.new.holding } }
+        ensures law { IsSeat self.new }
     {
         take_out(&mut self.holding, node);
         self.free.push_reserved(node);
@@ -214,6 +220,7 @@ impl Seat {
         requires own { has (nodes_of self.old.view.own) node ≡ true }
         requires used { self.old.fresh ≡ false }
         ensures held { Takes node self.old self.new }
+        ensures law { IsSeat self.new }
     {
         if holds(&self.holding, node) {
             return;

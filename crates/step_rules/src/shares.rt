@@ -1,5 +1,5 @@
 ghost use Rattle.std.specs.Prelude.{◌≡◌, ◌≤◌, ◌<◌, ◌+◌, ◌*◌, [], true, IfOk, OnErr, length, vec_capacity};
-ghost use Rattle.step_rules.specs.SeatData.{IsOf, is_quiet};
+ghost use Rattle.step_rules.specs.SeatData.{IsOf, IsSeat, is_quiet};
 ghost use Rattle.step_rules.specs.Steps.{IsJoined, IsSplit};
 ghost use Rattle.step_rules.specs.declared.layout.TheConstants.{CLAIMS};
 
@@ -19,6 +19,7 @@ impl Shared {
         requires fresh { seat.old.fresh ≡ true }
         requires more { 1 < length seat.old.view.numbers }
         ensures split { IfOk result (λ made. IsSplit seat.old seat.new made) }
+        ensures law { IfOk result (λ made. IsSeat seat.new × IsSeat made) }
         ensures refused { OnErr result (seat.new ≡ seat.old) }
     {
         let room = self.plan.share as usize + self.plan.removes as usize;
@@ -48,6 +49,7 @@ impl Shared {
             × (self.now.plan.share + self.now.plan.removes ≤ vec_capacity retired) × (self.now.plan.share + self.now.plan.removes ≤ vec_capacity noted)
             × (CLAIMS * self.now.plan.seats ≤ vec_capacity scan_found) }
         ensures split { IsSplit seat.old seat.new result }
+        ensures law { IsSeat seat.new × IsSeat result }
     {
         let mut inner = self.table.shared.split_seat::<Halves>(&mut seat.inner);
         settle(self, &mut seat.inner);
@@ -88,6 +90,7 @@ impl Shared {
         requires first { into.old.first ≡ true }
         requires quiet { (is_quiet into.old ≡ true) × (is_quiet from ≡ true) }
         ensures joined { IsJoined into.old from into.new }
+        ensures law { IsSeat into.new }
     {
         let Seat {
             inner,

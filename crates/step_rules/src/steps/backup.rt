@@ -1,7 +1,7 @@
 ghost use Rattle.std.specs.Prelude.{◌≡◌, ◌≢◌, ◌<◌, ◌+◌, ◌++◌, ◌∷◌, length, vec_capacity, vec_len};
 ghost use Rattle.step_rules.specs.Kinds.Backup.{MayExchange};
 ghost use Rattle.step_rules.specs.Layout.{cells};
-ghost use Rattle.step_rules.specs.SeatData.{IsOf};
+ghost use Rattle.step_rules.specs.SeatData.{IsOf, IsSeat};
 ghost use Rattle.step_rules.specs.Records.{removes_of};
 ghost use Rattle.step_rules.specs.Steps.{DropsNoted, HoldsFront, Sees, Won};
 ghost use Rattle.step_rules.specs.declared.view.Kind.TheVariants.{BackupExchange, BackupLoad};
@@ -18,6 +18,7 @@ pub fn backup_load(shared: &Shared, seat: &mut Seat, cell: u32) -> u64
     requires ours { IsOf shared.now seat.old }
     requires there { cell < cells shared.now.plan }
     ensures seat { Sees (BackupLoad cell) cell result seat.old seat.new }
+    ensures law { IsSeat seat.new }
 {
     seat.fresh = false;
     let place = shared.backup_place(cell);
@@ -39,6 +40,7 @@ fn exchange_told<T: Telling>(
     requires noted { DropsNoted call seat.old }
     ensures won { result ≡ seen → Won cell seen node call seat.old seat.new }
     ensures lost { result ≢ seen → Sees (BackupExchange cell seen node) cell result seat.old seat.new }
+    ensures law { IsSeat seat.new }
 {
     seat.fresh = false;
     let place = shared.backup_place(cell);
@@ -98,6 +100,7 @@ pub fn backup_exchange(
     requires noted { DropsNoted call seat.old }
     ensures won { result ≡ seen → Won cell seen node call seat.old seat.new }
     ensures lost { result ≢ seen → Sees (BackupExchange cell seen node) cell result seat.old seat.new }
+    ensures law { IsSeat seat.new }
 {
     exchange_told::<Brand>(shared, seat, cell, seen, node, call)
 }

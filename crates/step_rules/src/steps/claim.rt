@@ -2,7 +2,7 @@ ghost use Rattle.std.specs.Prelude.{◌≡◌, ◌<◌};
 ghost use Rattle.step_rules.specs.Claims.{Tells, WALK};
 ghost use Rattle.step_rules.specs.Kinds.Walking.{MayRecheck};
 ghost use Rattle.step_rules.specs.Layout.{cells};
-ghost use Rattle.step_rules.specs.SeatData.{IsOf};
+ghost use Rattle.step_rules.specs.SeatData.{IsOf, IsSeat};
 ghost use Rattle.step_rules.specs.Steps.{IsRechecked, IsWalked, MayClaim, stepped, unnoted};
 ghost use Rattle.step_rules.specs.Views.{announced_view, cleared_view};
 ghost use Rattle.step_rules.specs.declared.layout.TheConstants.{CLAIMS};
@@ -20,6 +20,7 @@ pub fn claim_store(shared: &Shared, seat: &mut Seat, claim: u32, node: u32)
     requires ours { IsOf shared.now seat.old }
     requires may { MayClaim claim node seat.old }
     ensures seat { seat.new ≡ stepped (announced_view claim node seat.old.view) (unnoted claim seat.old) }
+    ensures law { IsSeat seat.new }
 {
     seat.fresh = false;
     let place = shared.claim_place(seat.least, claim);
@@ -45,6 +46,7 @@ fn recheck_told<R: Rechecking>(
     requires may { MayRecheck claim cell seen seat.old.view }
     ensures told { Tells claim → IsRechecked claim cell seen result seat.old seat.new }
     ensures walked { claim ≡ WALK → IsWalked cell seen result seat.old seat.new }
+    ensures law { IsSeat seat.new }
 {
     seat.fresh = false;
     let place = shared.backup_place(cell);
@@ -63,6 +65,7 @@ pub fn recheck_load(shared: &Shared, seat: &mut Seat, claim: u32, cell: u32, see
     requires may { MayRecheck claim cell seen seat.old.view }
     ensures told { Tells claim → IsRechecked claim cell seen result seat.old seat.new }
     ensures walked { claim ≡ WALK → IsWalked cell seen result seat.old seat.new }
+    ensures law { IsSeat seat.new }
 {
     recheck_told::<Brand>(shared, seat, claim, cell, seen)
 }
@@ -73,6 +76,7 @@ pub fn claim_clear(shared: &Shared, seat: &mut Seat, claim: u32)
     requires ours { IsOf shared.now seat.old }
     requires claim { claim < CLAIMS }
     ensures seat { seat.new ≡ stepped (cleared_view claim seat.old.view) (unnoted claim seat.old) }
+    ensures law { IsSeat seat.new }
 {
     seat.fresh = false;
     let place = shared.claim_place(seat.least, claim);

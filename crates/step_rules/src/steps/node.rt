@@ -1,9 +1,8 @@
-ghost use Rattle.std.specs.Prelude.{◌≡◌, ◌<◌, true};
+ghost use Rattle.std.specs.Prelude.{◌≡◌, ◌<◌};
 ghost use Rattle.step_rules.specs.Kinds.Node.{Reads};
-ghost use Rattle.step_rules.specs.SeatData.{IsOf, Takes};
-ghost use Rattle.step_rules.specs.Steps.{IsUnannounced, MayLoad, stepped};
+ghost use Rattle.step_rules.specs.SeatData.{IsOf, IsSeat, Takes};
+ghost use Rattle.step_rules.specs.Steps.{IsOwn, IsUnannounced, MayLoad, stepped};
 ghost use Rattle.step_rules.specs.Views.{loaded_view, stored_view};
-ghost use Rattle.step_rules.specs.World.{has, nodes_of};
 ghost use Rattle.step_rules.specs.declared.layout.TheConstants.{NODE_WIDTH};
 
 use crate::plays::{Loads, Stores};
@@ -14,10 +13,11 @@ use crate::shared::Shared;
 /// node takes it.
 pub fn node_store(shared: &Shared, seat: &mut Seat, node: u32, j: u32, word: u64)
     requires ours { IsOf shared.now seat.old }
-    requires own { has (nodes_of seat.old.view.own) node ≡ true }
+    requires own { IsOwn node seat.old }
     requires unannounced { IsUnannounced node seat.old.view }
     requires word { j < NODE_WIDTH }
     ensures seat { Takes node (stepped (stored_view node j word seat.old.view) seat.old) seat.new }
+    ensures law { IsSeat seat.new }
 {
     seat.fresh = false;
     let place = shared.node_place(node, j);
@@ -35,6 +35,7 @@ pub fn node_load(shared: &Shared, seat: &mut Seat, node: u32, j: u32) -> u64
     requires word { j < NODE_WIDTH }
     ensures seat { seat.new ≡ stepped (loaded_view node j result seat.old.view) seat.old }
     ensures reads { Reads node j result seat.old.view }
+    ensures law { IsSeat seat.new }
 {
     seat.fresh = false;
     let place = shared.node_place(node, j);

@@ -1,7 +1,7 @@
 ghost use Rattle.std.specs.Prelude.{◌≡◌, ◌<◌, ◌≤◌, ◌+◌, ◌==◌, ◌&&◌, ◌++◌, [], true, false, not, ℕ, List, length, take, filter, vec_capacity, vec_len, if◌then◌else◌};
 ghost use Rattle.std.specs.List.Sorted.{IsNonDecreasing};
 ghost use Rattle.step_rules.specs.Kinds.Claiming.{FindsOwn, MayScan};
-ghost use Rattle.step_rules.specs.SeatData.{IsOf};
+ghost use Rattle.step_rules.specs.SeatData.{IsOf, IsSeat};
 ghost use Rattle.step_rules.specs.Steps.{IsScanned};
 ghost use Rattle.step_rules.specs.Views.{is_freed, noted};
 ghost use Rattle.step_rules.specs.World.{Once, has};
@@ -18,6 +18,7 @@ pub fn scan_load(shared: &Shared, seat: &mut Seat, word: u32) -> u64
     requires may { MayScan word seat.old.view }
     ensures seat { IsScanned word result seat.old seat.new }
     ensures own { FindsOwn word result seat.old.view }
+    ensures law { IsSeat seat.new }
 {
     seat.fresh = false;
     let found = shared

@@ -1,5 +1,5 @@
 ghost use Rattle.std.specs.Prelude.{◌≡◌};
-ghost use Rattle.step_rules.specs.SeatData.{IsOf};
+ghost use Rattle.step_rules.specs.SeatData.{IsOf, IsSeat};
 ghost use Rattle.step_rules.specs.Steps.{MayAnswer, stepped};
 ghost use Rattle.step_rules.specs.Views.{stood_view};
 
@@ -15,6 +15,7 @@ fn stand_told<P: Place, T: Telling>(shared: &Shared, seat: &mut Seat, call: Call
     requires ours { IsOf shared.now seat.old }
     requires may { MayAnswer P.place call reply seat.old }
     ensures seat { seat.new ≡ stepped (stood_view P.place call reply seat.old.view) seat.old }
+    ensures law { IsSeat seat.new }
 {
     seat.fresh = false;
     shared.table.shared.load::<Stands<P, T>>(&mut seat.inner, 0);
@@ -33,6 +34,7 @@ impl Seat {
         requires ours { IsOf shared.now self.old }
         requires may { MayAnswer P.place call reply self.old }
         ensures seat { self.new ≡ stepped (stood_view P.place call reply self.old.view) self.old }
+        ensures law { IsSeat self.new }
     {
         stand_told::<P, Brand>(shared, self, call, reply);
     }

@@ -40,4 +40,5 @@ returns c = record {
         ∙ ap (λ (l : List ℕ). record { object = c.in_ok-table.table.shared.table_id; view = starting c.args.plan.now; free = l; holding = []; noted = []; first = true; fresh = true })
         (c.in_ok-free.ensures.items ∙ (ap (λ (l : Layout). count_up l.cells (l.nodes - l.cells)) c.requires.layout ∙ ap (count_up (cells c.args.plan.now)) (own_count c.args.plan.now)));
   };
+  law = c.first_seat-seat.ensures.law;
 }

@@ -1,7 +1,7 @@
 use Rattle.std.proofs.Common.{◌≡◌, true, sym, ap, ◌∙◌, subst, arith}
 use Rattle.std.proofs.lemmas.Bool.{false≢true}
 use Rattle.step_rules.proofs.Bags.{was_there}
-use Rattle.step_rules.proofs.Tied.{is_free, moved_length, moved_times, tied_lists, within_room}
+use Rattle.step_rules.proofs.Tied.{is_free, lawful, moved_length, moved_times, tied_lists, within_room}
 use Rattle.step_rules.specs.SeatData.{SeatData}
 use Rattle.step_rules.specs.World.{has, nodes_of}
 use Rattle.step_rules.proofs.seat.Seat.hold.Goals as goal
@@ -31,3 +31,6 @@ invariant_of-self c = let s = c.self.inside in let i = c.self.invariant in let o
       i.4,
       i.5,
     )
+
+pub returns-clause-law : goal.returns-clause-law
+returns-clause-law c = lawful (record c.self.inside { free = c.take_out.new.list; holding = c.push_reserved.new.self }) (invariant_of-self c)

@@ -2,7 +2,7 @@ use Rattle.std.proofs.Common.{◌≡◌, ℕ, true, [], ◌∷◌, sym, ap, ◌�
 use Rattle.std.proofs.lemmas.Bool.{false≢true}
 use Rattle.step_rules.proofs.Bags.{one_there}
 use Rattle.step_rules.proofs.Sets.{has-append}
-use Rattle.step_rules.proofs.Tied.{moved_length, moved_times, tied_lists, within_room}
+use Rattle.step_rules.proofs.Tied.{lawful, moved_length, moved_times, tied_lists, within_room}
 use Rattle.step_rules.specs.SeatData.{SeatData}
 use Rattle.step_rules.specs.Steps.{IsUnannounced}
 use Rattle.step_rules.specs.World.{has}
@@ -30,3 +30,6 @@ invariant_of-self c = let s = c.self.inside in let i = c.self.invariant in let o
       i.4,
       i.5,
     )
+
+pub returns-clause-law : goal.returns-clause-law
+returns-clause-law c = lawful (record c.self.inside { free = c.push_reserved.new.self; holding = c.take_out.new.list }) (invariant_of-self c)

@@ -5,12 +5,13 @@ use Rattle.step_rules.specs.History.{IsHistory}
 use Rattle.step_rules.specs.Lawful.{Lawful}
 use Rattle.step_rules.specs.Layout.{nodes}
 use Rattle.step_rules.specs.Line.{InOneLine}
-use Rattle.step_rules.specs.SeatData.{ObjectData, SeatData}
+use Rattle.step_rules.specs.SeatData.{IsSeat, ObjectData, SeatData}
 use Rattle.step_rules.specs.World.{has}
 use Rattle.step_rules.specs.declared.plan.Plan.{Plan}
 use Rattle.step_rules.specs.declared.view.View.{View}
 use Rattle.step_rules.proofs.Closings.{Closes, closes, none_lost}
 use Rattle.step_rules.proofs.Joining.{quiet_lists}
+use Rattle.step_rules.proofs.Tied.{lawful}
 use Rattle.step_rules.proofs.shared.Shared.close.Goals as goal
 
 module _ (c : goal.After-drop-seat-inside-3) where
@@ -68,4 +69,5 @@ returns c = record {
     line = subst (λ (v : View). InOneLine c.self.inside.plan v.seen v.stands) (last_view c) (closing c).line;
     counted = counted c;
   };
+  law = subst IsSeat c.seat.view_is (lawful c.seat.inside c.seat.invariant);
 }

@@ -7,13 +7,14 @@ use Rattle.step_rules.specs.Steps.{cut}
 use Rattle.step_rules.specs.Views.{left_view, number, right_view}
 use Rattle.step_rules.specs.declared.layout.TheConstants.{CLAIMS}
 use Rattle.step_rules.specs.declared.plan.Plan.{Plan}
+use Rattle.step_rules.specs.declared.seat.Seat.TheInside.{Inside}
 use Rattle.step_rules.specs.declared.view.View.{View}
 use Rattle.step_rules.proofs.Keeps.Splits.{splits}
 use Rattle.step_rules.proofs.Owed.{meets}
 use Rattle.step_rules.proofs.Sets.{has_first}
 use Rattle.step_rules.proofs.Sizes.{some_word}
 use Rattle.step_rules.proofs.Splitting.{cut_at, free_length, left_new, right_fresh, right_least, right_length, share_room}
-use Rattle.step_rules.proofs.Tied.{IsWhole, new_whole}
+use Rattle.step_rules.proofs.Tied.{IsWhole, lawful, new_whole}
 use Rattle.step_rules.proofs.shared.Shared.cut.Goals as goal
 
 pub split_seat-inner-requires : goal.split_seat-inner-requires
@@ -77,6 +78,27 @@ module _ (c : goal.After-truncate) where
   new_least : c.seat.inside.least + (c.seat.inside.numbers - 1) ≡ number c.seat.inside.inner.me.0 + (length c.seat.inside.inner.me.0.numbers - 1)
   new_least = (λ i. c.seat.invariant.1 i + (c.seat.invariant.0.numbers i - 1))
 
+  -- the new seat
+  abbrev made : Inside
+  made = let s = c.seat.inside in let p = c.self.inside.plan in record {
+    inner = c.settle-2.new.inner;
+    least = s.least + (s.numbers - 1);
+    numbers = 1;
+    first = false;
+    fresh = true;
+    holds_record = false;
+    changes = p.changes;
+    removes = p.removes;
+    free = c.extend_from_slice.new.self;
+    holding = c.args.holding;
+    retired = c.args.retired;
+    noted = c.args.noted;
+    claims = replicate CLAIMS 0;
+    scan_next = 0;
+    scan_old = 0;
+    scan_found = c.args.scan_found;
+  }
+
 pub overflow_add-result : goal.overflow_add-result
 overflow_add-result c = let s = c.seat.inside in let w = c.settle-2.new.inner.me.0 in let sound = c.settle-2.ensures.sound in
     let low : number w < w.plan.seats = sound.below (number w) (has_first w.numbers sound.some_number) in
@@ -94,24 +116,7 @@ invariant_of-seat c = let s = c.seat.inside in
 
 pub invariant_of-result : goal.invariant_of-result
 invariant_of-result c = let s = c.seat.inside in let p = c.self.inside.plan in let room = c.requires.room in
-    let share_is = share_room s c.seat.invariant.0 (unused c) (more c) in new_whole (record {
-      inner = c.settle-2.new.inner;
-      least = s.least + (s.numbers - 1);
-      numbers = 1;
-      first = false;
-      fresh = true;
-      holds_record = false;
-      changes = p.changes;
-      removes = p.removes;
-      free = c.extend_from_slice.new.self;
-      holding = c.args.holding;
-      retired = c.args.retired;
-      noted = c.args.noted;
-      claims = replicate CLAIMS 0;
-      scan_next = 0;
-      scan_old = 0;
-      scan_found = c.args.scan_found;
-    }) (right_view s.inner.me.0) (made_me c) c.settle-2.ensures.sound (record {
+    let share_is = share_room s c.seat.invariant.0 (unused c) (more c) in new_whole (made c) (right_view s.inner.me.0) (made_me c) c.settle-2.ensures.sound (record {
       fresh = right_fresh s c.seat.invariant.0 (unused c) (more c) c.extend_from_slice.new.self.items c.args.holding.items (made_free c) c.requires.empty.1;
       numbers = sym (right_length s c.seat.invariant.0 (unused c) (more c));
       least = new_least c ∙ right_least s c.seat.invariant.0 (unused c) (more c);
@@ -157,4 +162,8 @@ returns c = record {
     })
         ∙ ap (λ (s : SeatData). record { object = s.object; view = right_view s.view; free = drop (cut s) s.free; holding = []; noted = []; first = false; fresh = true }) c.seat.view_is;
   };
+  law = let s = c.seat.inside in let p = c.self.inside.plan in (
+    lawful (record s { inner = c.settle.new.inner; numbers = s.numbers - 1; changes = s.changes - p.changes; removes = s.removes - p.removes; free = c.truncate.new.self }) (invariant_of-seat c),
+    lawful (made c) (invariant_of-result c),
+  );
 }

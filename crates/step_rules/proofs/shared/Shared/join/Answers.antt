@@ -1,4 +1,4 @@
-use Rattle.std.proofs.Common.{◌≡◌, ◌<◌, true, false, not, ◌&&◌, ℕ, List, ◌++◌, ap, sym, subst, ◌∙◌, arith}
+use Rattle.std.proofs.Common.{◌≡◌, ◌<◌, true, false, not, ◌&&◌, ℕ, List, ◌+◌, ◌++◌, ap, sym, subst, ◌∙◌, arith}
 use Rattle.std.proofs.lemmas.Nat.{mul-le}
 use Rattle.seat_history.specs.declared.entry.Entry.{Entry}
 use Rattle.step_rules.specs.History.{GoesOn}
@@ -6,7 +6,7 @@ use Rattle.step_rules.specs.SeatData.{SeatData, all_zero, claim_words, holds_rec
 use Rattle.step_rules.specs.Views.{joined_view}
 use Rattle.step_rules.proofs.Joining.{count_few, free_room, merged, quiet_claims, removes_few, record_same, retired_room, seen_parts, whole_joined}
 use Rattle.step_rules.proofs.Keeps.Joins.{joins}
-use Rattle.step_rules.proofs.Tied.{data_of}
+use Rattle.step_rules.proofs.Tied.{data_of, lawful}
 use Rattle.step_rules.proofs.Owed.{meets}
 use Rattle.step_rules.proofs.Sizes.{some_word}
 use Rattle.step_rules.proofs.shared.Shared.join.Goals as goal
@@ -86,4 +86,13 @@ returns c =
         quiet = subst (λ (z : SeatData). is_quiet z ≡ true) (sym is_joined)
             (ap (λ b. not b && (is_empty old.holding && all_zero (claim_words old.view))) record_stays ∙ c.requires.quiet.0);
       };
+      law = let s = c.into.inside in let o = c.from.inside in lawful (record s {
+        inner = c.settle.new.inner;
+        fresh = false;
+        numbers = s.numbers + o.numbers;
+        changes = s.changes + o.changes;
+        removes = s.removes + o.removes;
+        free = c.append.new.self;
+        retired = c.append-2.new.self;
+      }) (invariant_of-into c);
     }

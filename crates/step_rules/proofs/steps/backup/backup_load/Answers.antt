@@ -1,6 +1,6 @@
-use Rattle.std.proofs.Common.{◌<◌, subst}
+use Rattle.std.proofs.Common.{◌<◌, false, subst}
 use Rattle.step_rules.proofs.Owed.{look_call, meets}
-use Rattle.step_rules.proofs.Tied.{whole_looked}
+use Rattle.step_rules.proofs.Tied.{lawful, whole_looked}
 use Rattle.step_rules.specs.Layout.{backup_at, cells}
 use Rattle.step_rules.specs.declared.plan.Plan.{Plan}
 use Rattle.step_rules.proofs.steps.backup.backup_load.Goals as goal
@@ -18,3 +18,6 @@ invariant_of-seat c =
     let m = meets c.seat.view_is c.shared.view_is c.requires.ours c.shared.invariant.2 c.shared.invariant.3 in
     let told = c.load.ensures.2 in
     whole_looked c.seat.inside c.seat.invariant c.load.new.seat told.0 told.1 _ c.args.cell _ (told.2 c.args.cell (m.at (λ p. backup_at p c.args.cell) _ c.backup_place-place.ensures.0))
+
+pub returns-clause-law : goal.returns-clause-law
+returns-clause-law c = lawful (record c.seat.inside { inner = c.load.new.seat; fresh = false }) (invariant_of-seat c)

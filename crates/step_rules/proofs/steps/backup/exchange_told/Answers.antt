@@ -1,7 +1,7 @@
-use Rattle.std.proofs.Common.{ℕ, ◌+◌, ◌*◌, ◌/◌, ◌<◌, ◌≤◌, ◌∷◌, ◌++◌, length, sym, ap, ◌∙◌, subst, arith}
+use Rattle.std.proofs.Common.{ℕ, false, ◌+◌, ◌-◌, ◌*◌, ◌/◌, ◌<◌, ◌≤◌, ◌∷◌, ◌++◌, length, sym, ap, ◌∙◌, subst, arith}
 use Rattle.seat_history.specs.declared.call.Call.{Call}
 use Rattle.step_rules.proofs.Owed.{exchange_call, meets, plan_of}
-use Rattle.step_rules.proofs.Tied.{exchange_there, whole_looked}
+use Rattle.step_rules.proofs.Tied.{exchange_there, lawful, whole_looked}
 use Rattle.step_rules.proofs.Winning.{room_won, whole_won}
 use Rattle.step_rules.specs.Kinds.Backup.{MayExchange, Wins}
 use Rattle.step_rules.specs.Layout.{backup_at, cells, nodes}
@@ -72,3 +72,16 @@ invariant_of-seat-2 g c =
     (subst (λ (z : Call). Wins c.args.cell c.args.seen c.args.node z c.seat.inside.inner.me.0 c.compare_exchange-found.new.seat.me.0) (sym c.requires.told) wins)
     _ c.clear.new.self c.retire.new.retired c.removes_of.ensures c.clear.ensures.items
     (c.retire.ensures.items ∙ ap (λ l. c.seat.inside.retired.items ++ c.args.seen / 2 ∷ l) c.deref.ensures.value) c.clear.ensures.capacity c.retire.ensures.capacity
+
+pub returns-then-found-seen-clause-law : goal.returns-then-found-seen-clause-law
+returns-then-found-seen-clause-law g c = lawful (record c.seat.inside { inner = c.compare_exchange-found.new.seat; fresh = false }) (invariant_of-seat g c)
+
+pub returns-clause-law : goal.returns-clause-law
+returns-clause-law g c = let s = c.seat.inside in lawful (record s {
+  inner = c.compare_exchange-found.new.seat;
+  fresh = false;
+  changes = s.changes - 1;
+  removes = s.removes - c.removes_of.result;
+  holding = c.clear.new.self;
+  retired = c.retire.new.retired;
+}) (invariant_of-seat-2 g c)

@@ -1,6 +1,6 @@
-use Rattle.std.proofs.Common.{ℕ, ◌<◌, sym, ◌∙◌, subst, ⊎_elim}
+use Rattle.std.proofs.Common.{ℕ, ◌<◌, false, sym, ◌∙◌, subst, ⊎_elim}
 use Rattle.step_rules.proofs.Owed.{meets, recheck_call}
-use Rattle.step_rules.proofs.Tied.{data_of, whole_rechecked, whole_walked}
+use Rattle.step_rules.proofs.Tied.{data_of, lawful, whole_rechecked, whole_walked}
 use Rattle.atomic_table.specs.Seated.{TableId}
 use Rattle.step_rules.specs.Claims.{Tells}
 use Rattle.step_rules.specs.Kinds.Claiming.{Rechecks}
@@ -68,3 +68,6 @@ returns-clause-walked g c walk =
           ((c.load.ensures.2.1 (sym c.requires.told.0 ∙ walk) n named).2 c.args.cell at);
       same = λ i. stepped c.load.new.seat.me.0 (data_at s (c.load.ensures.0 i));
     })
+
+pub returns-clause-law : goal.returns-clause-law
+returns-clause-law g c = lawful (record c.seat.inside { inner = c.load.new.seat; fresh = false }) (invariant_of-seat g c)

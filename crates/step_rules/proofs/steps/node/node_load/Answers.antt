@@ -1,6 +1,6 @@
-use Rattle.std.proofs.Common.{◌<◌, ⊎_elim, sym, subst}
+use Rattle.std.proofs.Common.{◌<◌, false, ⊎_elim, sym, subst}
 use Rattle.step_rules.proofs.Owed.{load_call, meets, plan_of}
-use Rattle.step_rules.proofs.Tied.{own_held, own_there, whole_loaded}
+use Rattle.step_rules.proofs.Tied.{lawful, own_held, own_there, whole_loaded}
 use Rattle.step_rules.specs.Layout.{node_at, nodes}
 use Rattle.step_rules.specs.SeatData.{SeatData}
 use Rattle.step_rules.specs.Steps.{MayLoad}
@@ -34,3 +34,6 @@ invariant_of-seat c =
     let told = c.load.ensures.2 in
     whole_loaded c.seat.inside c.seat.invariant c.load.new.seat told.0 told.1 c.args.node c.args.j _
     (told.2 c.args.node c.args.j (m.at (λ p. node_at p c.args.node c.args.j) _ c.node_place-place.ensures.0) c.requires.word).0
+
+pub returns-clause-law : goal.returns-clause-law
+returns-clause-law c = lawful (record c.seat.inside { inner = c.load.new.seat; fresh = false }) (invariant_of-seat c)

@@ -1,7 +1,7 @@
-use Rattle.std.proofs.Common.{◌≡◌, ◌≢◌, ◌+◌, suc, ◌*◌, ◌<◌, ◌++◌, ℕ, List, cond, eqb, length, sym, ap, ◌∙◌, subst, arith}
+use Rattle.std.proofs.Common.{◌≡◌, ◌≢◌, false, ◌+◌, suc, ◌*◌, ◌<◌, ◌++◌, ℕ, List, cond, eqb, length, sym, ap, ◌∙◌, subst, arith}
 use Rattle.step_rules.proofs.Owed.{meets, scan_call}
 use Rattle.step_rules.proofs.Scanned.{freed_then, last_word, scanned_last, whole_freed, whole_noted}
-use Rattle.step_rules.proofs.Tied.{within_room}
+use Rattle.step_rules.proofs.Tied.{lawful, within_room}
 use Rattle.step_rules.specs.Kinds.Claiming.{MayScan}
 use Rattle.step_rules.specs.SeatData.{ObjectData, SeatData}
 use Rattle.step_rules.specs.declared.layout.TheConstants.{CLAIMS}
@@ -72,3 +72,23 @@ invariant_of-seat-else-seat-shared c =
       long = c.note.ensures.long;
     })
     c.load-found.new.seat told.0 told.1 (told.2.1 on) c.note.ensures.capacity
+
+pub returns-then-seat-shared-clause-law : goal.returns-then-seat-shared-clause-law
+returns-then-seat-shared-clause-law c = lawful (record c.seat.inside {
+  inner = c.load-found.new.seat;
+  fresh = false;
+  free = c.part.new.free;
+  retired = c.part.new.retired;
+  scan_next = 0;
+  scan_old = 0;
+  scan_found = c.part.new.found;
+}) (invariant_of-seat c)
+
+pub returns-else-seat-shared-clause-law : goal.returns-else-seat-shared-clause-law
+returns-else-seat-shared-clause-law c = lawful (record c.seat.inside {
+  inner = c.load-found.new.seat;
+  fresh = false;
+  scan_next = c.args.word + 1;
+  scan_old = c.old_end-seat-inside.result;
+  scan_found = c.note.new.list;
+}) (invariant_of-seat-else-seat-shared c)

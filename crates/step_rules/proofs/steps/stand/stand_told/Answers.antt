@@ -3,7 +3,7 @@ use Rattle.seat_history.specs.declared.call.Call.{Call}
 use Rattle.seat_history.specs.declared.reply.Reply.{Reply}
 use Rattle.step_rules.proofs.Owed.{meets, stand_call}
 use Rattle.step_rules.proofs.Records.{else_holding, holding_after}
-use Rattle.step_rules.proofs.Tied.{whole_stood}
+use Rattle.step_rules.proofs.Tied.{lawful, whole_stood}
 use Rattle.step_rules.specs.Kinds.Standing.{MayStand}
 use Rattle.step_rules.specs.SeatData.{SeatData}
 use Rattle.step_rules.proofs.steps.stand.stand_told.Goals as goal
@@ -34,3 +34,12 @@ pub invariant_of-seat-in_default : goal.invariant_of-seat-in_default
 invariant_of-seat-in_default g c = let told = c.load.ensures.2 in
     whole_stood c.seat.inside c.seat.invariant c.load.new.seat told.0 told.1 g.P.Place.place g.T.Telling.call g.T.Telling.reply _ (told.2 refl)
     (else_holding c.seat.inside.holds_record c.args.call c.in_default.not-Hold c.in_default.not-Release ∙ ap (holding_after c.seat.inside.holds_record) c.requires.told.0)
+
+pub returns-in-Hold-clause-law : goal.returns-in-Hold-clause-law
+returns-in-Hold-clause-law g c = lawful (record c.seat.inside { inner = c.load.new.seat; fresh = false; holds_record = true }) (invariant_of-seat g c)
+
+pub returns-in-Release-clause-law : goal.returns-in-Release-clause-law
+returns-in-Release-clause-law g c = lawful (record c.seat.inside { inner = c.load.new.seat; fresh = false; holds_record = false }) (invariant_of-seat-in-Release g c)
+
+pub returns-in_default-clause-law : goal.returns-in_default-clause-law
+returns-in_default-clause-law g c = lawful (record c.seat.inside { inner = c.load.new.seat; fresh = false }) (invariant_of-seat-in_default g c)
