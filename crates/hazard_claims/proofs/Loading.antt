@@ -4,7 +4,7 @@ use Rattle.std.proofs.Common.{length, map, filter, get_or, set, cond, eqb, eq-eq
 use Rattle.std.proofs.Common.{slice_index_or}
 use Rattle.std.proofs.lemmas.Bool.Decides.{nat_tests}
 use Rattle.std.proofs.lemmas.Bool.{and_parts, cases_eq, eqb-true, or_left, or_right}
-use Rattle.std.proofs.lemmas.List.{append-nil, append_assoc, get_or-set_other, get_or-set_same, get_or_append_left, length-map, map-append}
+use Rattle.std.proofs.lemmas.List.{append-nil, append_assoc, length-set, get_or-set_other, get_or-set_same, get_or_append_left, length-map, map-append}
 use Rattle.std.proofs.Math.Seq.{get_or-append_seam}
 use Rattle.hazard_claims.specs.Scanning.{ClearsWalk, IsScan, names}
 use Rattle.step_rules.proofs.Keeps.Scans.{has_filter, once_filter}
@@ -233,7 +233,7 @@ pub record IsReady (old start : SeatData) : Type 0 where
   pub walk : (slice_index_or claims WALK (silent 0)).word ≡ 0
   pub others : (c : ℕ) → c ≢ WALK → slice_index_or claims c (silent 0) ≡ claim_of c old.view
 
-pub ready : (old start : SeatData) → length old.view.claims ≡ CLAIMS → ClearsWalk old start → IsReady old start
+pub ready : (old start : SeatData) → length start.view.claims ≡ CLAIMS → ClearsWalk old start → IsReady old start
 ready old start four (inl q) = record {
   clear = [];
   claims = old.view.claims;
@@ -243,21 +243,19 @@ ready old start four (inl q) = record {
   walk = q.1;
   others = λ c ne. refl;
 }
-ready old start four (inr q) = record {
-  clear = counted (ClaimClear WALK) 0 (length old.view.seen) ∷ [];
-  claims = set old.view.claims WALK (silent 0);
-  fresh = false;
-  is = q;
-  step = inr refl;
-  walk = ap (λ (y : Claim). y.word) (get_or-set_same old.view.claims WALK (silent 0) (silent 0) (omega arith));
-  others = λ c ne. get_or-set_other old.view.claims WALK c (silent 0) (silent 0) ne;
-}
+ready old start four_now (inr q) = let four : length old.view.claims ≡ CLAIMS =
+    sym (ap (λ (s : SeatData). length s.view.claims) q ∙ length-set old.view.claims WALK (silent 0)) ∙ four_now in record {
+      clear = counted (ClaimClear WALK) 0 (length old.view.seen) ∷ [];
+      claims = set old.view.claims WALK (silent 0);
+      fresh = false;
+      is = q;
+      step = inr refl;
+      walk = ap (λ (y : Claim). y.word) (get_or-set_same old.view.claims WALK (silent 0) (silent 0) (omega arith));
+      others = λ c ne. get_or-set_other old.view.claims WALK c (silent 0) (silent 0) ne;
+    }
 
 pub ready_of : (old start : SeatData) (shared : ObjectData) → IsReady old start → IsOf shared old → IsOf shared start
 ready_of old start shared is_ready of = subst (λ s. IsOf shared s) (sym is_ready.is) (record { object = of.object; plan = of.plan })
-
-pub ready_once : (old start : SeatData) → IsReady old start → Once old.view.retired → Once start.view.retired
-ready_once old start is_ready once = subst (λ (s : SeatData). Once s.view.retired) (sym is_ready.is) once
 
 zero_claims : (xs : List Claim) (c : ℕ) → all_zero (map (λ (y : Claim). y.word) xs) ≡ true → (slice_index_or xs c (silent 0)).word ≡ 0
 zero_claims [] c h = refl
@@ -281,10 +279,13 @@ own_stands n c v is =
     ap (λ (z : Bool × ℕ). cond z.0 false (claim_of z.1 v).stands) (λ i. (high i, rest i))
 
 -- a whole scan
-module _ (old start new : SeatData) (loads : List Counted) (sound : Sound old.view) (is_ready : IsReady old start)
+module _ (old start new : SeatData) (loads : List Counted) (sound_start : Sound start.view) (is_ready : IsReady old start)
     (loaded : Loads (CLAIMS * old.view.plan.seats) loads start.view) (ended : Ended loads start new) where
   abbrev ready_seat : SeatData
   ready_seat = cleared old is_ready.clear is_ready.claims is_ready.fresh
+
+  sound : Sound ready_seat.view
+  sound = subst (λ (s : SeatData). Sound s.view) is_ready.is sound_start
 
   found_words : Loads (CLAIMS * old.view.plan.seats) loads ready_seat.view
   found_words = subst (λ (s : SeatData). Loads (CLAIMS * old.view.plan.seats) loads s.view) is_ready.is loaded

@@ -2,7 +2,7 @@ ghost use Rattle.std.specs.Prelude.{◌≡◌, ◌<◌};
 ghost use Rattle.hazard_claims.specs.Claiming.{IsAnnounced, IsReleased, Rechecked, claim_number};
 ghost use Rattle.step_rules.specs.Kinds.Walking.{MayRecheck};
 ghost use Rattle.step_rules.specs.Layout.{cells};
-ghost use Rattle.step_rules.specs.SeatData.{IsOf};
+ghost use Rattle.step_rules.specs.SeatData.{IsOf, IsSeat};
 ghost use Rattle.step_rules.specs.Steps.{MayClaim};
 
 use crate::answers::Recheck;
@@ -40,6 +40,7 @@ pub fn announce(shared: &Shared, seat: &mut Seat, claim: Claim, node: u32)
     requires ours { IsOf shared.now seat.old }
     requires may { MayClaim (claim_number claim) node seat.old }
     ensures announced { IsAnnounced claim node seat.old seat.new }
+    ensures law { IsSeat seat.new }
 {
     claim_store(shared, seat, claim.number(), node);
 }
@@ -52,6 +53,7 @@ pub fn recheck(shared: &Shared, seat: &mut Seat, claim: Claim, cell: u32, seen: 
     requires there { cell < cells shared.now.plan }
     requires may { MayRecheck (claim_number claim) cell seen seat.old.view }
     ensures rechecked { Rechecked claim cell seen result seat.old seat.new }
+    ensures law { IsSeat seat.new }
 {
     let found = recheck_load(shared, seat, claim.number(), cell, seen);
     if found / 2 == seen / 2 {
@@ -65,6 +67,7 @@ pub fn recheck(shared: &Shared, seat: &mut Seat, claim: Claim, cell: u32, seen: 
 pub fn release(shared: &Shared, seat: &mut Seat, claim: Claim)
     requires ours { IsOf shared.now seat.old }
     ensures released { IsReleased claim seat.old seat.new }
+    ensures law { IsSeat seat.new }
 {
     claim_clear(shared, seat, claim.number());
 }

@@ -1,5 +1,5 @@
 ghost use Rattle.hazard_claims.specs.Scanning.{ClearsWalk, IsScan};
-ghost use Rattle.step_rules.specs.SeatData.{IsOf};
+ghost use Rattle.step_rules.specs.SeatData.{IsOf, IsSeat};
 
 use crate::claims::{Claim, release};
 use step_rules::{CLAIMS, Seat, Shared, scan_load};
@@ -8,6 +8,7 @@ use step_rules::{CLAIMS, Seat, Shared, scan_load};
 pub fn clear_walk(shared: &Shared, seat: &mut Seat)
     requires ours { IsOf shared.now seat.old }
     ensures cleared { ClearsWalk seat.old seat.new }
+    ensures law { IsSeat seat.new }
 {
     if seat.claim_word(Claim::Walk.number()) != 0 {
         release(shared, seat, Claim::Walk);
@@ -19,8 +20,8 @@ pub fn clear_walk(shared: &Shared, seat: &mut Seat)
 pub fn scan(shared: &Shared, seat: &mut Seat)
     requires ours { IsOf shared.now seat.old }
     ensures scanned { IsScan seat.old seat.new }
+    ensures law { IsSeat seat.new }
 {
-    seat.law();
     clear_walk(shared, seat);
     for word in 0..CLAIMS * shared.plan().seats {
         scan_load(shared, seat, word);

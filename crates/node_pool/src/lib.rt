@@ -3,7 +3,7 @@
 
 ghost use Rattle.std.specs.Prelude.{◌≡◌, ◌<◌, true, length};
 ghost use Rattle.node_pool.specs.Pool.{IsAllPutBack, IsFilled, IsPutBack, IsRead, IsTaken};
-ghost use Rattle.step_rules.specs.SeatData.{IsOf, NoneAnnounced};
+ghost use Rattle.step_rules.specs.SeatData.{IsOf, IsSeat, NoneAnnounced};
 ghost use Rattle.step_rules.specs.Steps.{IsUnannounced, MayLoad};
 ghost use Rattle.step_rules.specs.World.{has};
 
@@ -17,8 +17,8 @@ pub fn take(shared: &Shared, seat: &mut Seat) -> u32
     requires ours { IsOf shared.now seat.old }
     requires free { 0 < length seat.old.free }
     ensures taken { IsTaken result seat.old seat.new }
+    ensures law { IsSeat seat.new }
 {
-    seat.law();
     let node = seat.next_free();
     node_store(shared, seat, node, 0, 0);
     node
@@ -30,8 +30,8 @@ pub fn fill(shared: &Shared, seat: &mut Seat, node: u32, words: NodeWords)
     requires held { has seat.old.holding node ≡ true }
     requires unannounced { IsUnannounced node seat.old.view }
     ensures filled { IsFilled node words seat.old seat.new }
+    ensures law { IsSeat seat.new }
 {
-    seat.law();
     for (j, word) in words.iter().enumerate() {
         node_store(shared, seat, node, j as u32, *word);
     }
@@ -43,6 +43,7 @@ pub fn put_back(_shared: &Shared, seat: &mut Seat, node: u32)
     requires held { has seat.old.holding node ≡ true }
     requires unannounced { IsUnannounced node seat.old.view }
     ensures free { IsPutBack node seat.old seat.new }
+    ensures law { IsSeat seat.new }
 {
     seat.unhold(node);
 }
@@ -52,6 +53,7 @@ pub fn put_back_all(shared: &Shared, seat: &mut Seat)
     requires ours { IsOf shared.now seat.old }
     requires unannounced { NoneAnnounced seat.old.holding seat.old.view }
     ensures free { IsAllPutBack seat.old seat.new }
+    ensures law { IsSeat seat.new }
 {
     'nodes: while seat.holding() > 0 {
         let node = seat.next_held();
@@ -64,8 +66,8 @@ pub fn node_words(shared: &Shared, seat: &mut Seat, node: u32) -> NodeWords
     requires ours { IsOf shared.now seat.old }
     requires known { MayLoad node seat.old }
     ensures read { IsRead node result seat.old seat.new }
+    ensures law { IsSeat seat.new }
 {
-    seat.law();
     let mut words = [0u64; NODE_WIDTH];
     for (j, word) in words.iter_mut().enumerate() {
         *word = node_load(shared, seat, node, j as u32);
