@@ -1,17 +1,14 @@
 -- The front of an insert, copied.
-use Rattle.std.proofs.Common.{◌≡◌, ◌≢◌, ◌∙◌, ℕ, ◌+◌, ◌-◌, ◌<◌, ◌≤◌, true, false, eq-eqb, ne_eqb, List, [], ◌∷◌, ◌++◌, length, append_assoc, length-append, refl, sym, ap, subst, arith, ⊎_elim}
+use Rattle.std.proofs.Common.{◌≡◌, ◌≢◌, ◌∙◌, ℕ, ◌+◌, ◌-◌, ◌<◌, ◌≤◌, true, false, eq-eqb, ne_eqb, List, [], ◌∷◌, ◌++◌, length, append_assoc, length-append, sym, ap, subst, arith, ⊎_elim}
 use Rattle.std.proofs.lemmas.Bool.{cases_eq, false≢true}
 use Rattle.chain_links.proofs.Passing.{Kept, back_claim, claim_at_low, kept_back, kept_then, read_kept}
 use Rattle.chain_links.proofs.Putting.{put_kept}
 use Rattle.chain_links.proofs.Seeking.{next_word}
 use Rattle.chain_links.proofs.Ways.{first_node}
-use Rattle.chain_links.specs.Copying.{HasFree, HoldsCopy, IsPut, PutsBeside, front_steps, put_steps}
+use Rattle.chain_links.specs.Copying.{HoldsCopy, IsPut, PutsBeside, front_steps, put_steps}
 use Rattle.chain_links.specs.Walking.{HasBack}
-use Rattle.chain_links.specs.declared.answers.Edit.{Edit}
-use Rattle.chain_links.specs.declared.answers.Edit.TheVariants.{Insert}
 use Rattle.node_pool.proofs.Taken.{has_added}
 use Rattle.node_pool.specs.Pool.{IsRead, load_steps}
-use Rattle.seat_history.specs.declared.key.KeyWords.{KeyWords}
 use Rattle.seat_history.specs.declared.words.TheConstants.{WIDTH}
 use Rattle.step_rules.proofs.Bags.{one_list}
 use Rattle.step_rules.proofs.Inserting.{PutsBefore, front_alone, front_before, insert_front}
@@ -210,14 +207,10 @@ module _ {cell first : ℕ} {words : List ℕ} {before read : SeatData} (r : Rea
             ∙ (λ j. before.view.trail ++ (load_steps first 0 (image_is j) seen ++ front_steps (sym beside_front j) seen)))) i))));
       }
 
--- the one edit
-pub is_insert : (edit : Edit) → (key : KeyWords) × (val : List ℕ) × (edit ≡ Insert key val)
-is_insert (Insert key val) = (key, val, refl)
-
-pub has_free : (edit : Edit) (seat : SeatData) → HasFree edit seat → (claimed_records seat.view ≡ [] → 1 ≤ length seat.free) × (claimed_records seat.view ≢ [] → 2 ≤ length seat.free)
-has_free (Insert key val) seat f = f
-
 -- both ways
 pub copies : {cell first node : ℕ} {words rec : List ℕ} {before read now : SeatData} → ReadsFirst cell first words before read → IsSeat now
     → (next_word words ≡ END → IsPut node (rec ++ 0 ∷ []) read now) → (next_word words ≢ END → PutsBeside node rec words read now) → HoldsCopy node (put rec) before now
-copies {node = node} {words = words} {rec = rec} {now = now} r last alone beside = ⊎_elim (λ e. copies_none r node rec now last e (alone e)) (λ ne. copies_one r node rec now last ne (beside ne)) (cases_eq (next_word words) END)
+copies {node = node} {words = words} {rec = rec} {now = now} r last alone beside = ⊎_elim
+    (λ e. copies_none r node rec now last e (alone e))
+    (λ ne. copies_one r node rec now last ne (beside ne))
+    (cases_eq (next_word words) END)

@@ -1,4 +1,7 @@
 mod Copies
+pub mod Doing
+mod Finishing
+mod Following
 pub mod Passing
 mod Putting
 mod Seeking

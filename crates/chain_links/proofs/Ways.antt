@@ -15,7 +15,7 @@ use Rattle.step_rules.proofs.Sizes.{nodes_low}
 use Rattle.step_rules.specs.Claims.{BACK, IsClaim, On}
 use Rattle.step_rules.specs.Layout.{nodes}
 use Rattle.step_rules.specs.Records.{key_in, record_in}
-use Rattle.step_rules.specs.SeatData.{SeatData}
+use Rattle.step_rules.specs.SeatData.{IsSeat, SeatData}
 use Rattle.step_rules.specs.Sound.{Sound}
 use Rattle.step_rules.specs.Views.{claim_of, claimed_pages, words_in}
 use Rattle.step_rules.specs.World.{has, nodes_of}
@@ -32,6 +32,7 @@ pub record OnTheWay (cell first : ℕ) (key : KeyWords) (at : ℕ) (words : List
   pub back : HasBack cell old.view
   pub first_is : first ≡ back.node
   pub come : HasCome cell (2 * first) at old now
+  pub law : IsSeat now
   pub front : List Held
   pub node : ℕ
   pub rest : List Held
@@ -39,9 +40,9 @@ pub record OnTheWay (cell first : ℕ) (key : KeyWords) (at : ℕ) (words : List
   pub long : length front ≡ at
   pub seeks : Seeks (key_number key) at (claimed_pages old.view) (page_of node words ∷ rest)
 
-pub starts : (cell first : ℕ) (key : KeyWords) (words : List ℕ) (old now : SeatData) → Sound old.view → Sound now.view → (b : HasBack cell old.view) → first ≡ b.node → IsRead first words old now
+pub starts : (cell first : ℕ) (key : KeyWords) (words : List ℕ) (old now : SeatData) → Sound old.view → IsSeat now → (b : HasBack cell old.view) → first ≡ b.node → IsRead first words old now
     → OnTheWay cell first key 0 words old now
-starts cell first key words old now sound sound_now b is r =
+starts cell first key words old now sound law b is r =
     let claim = back_claim cell old.view sound b in
     let image : words ≡ (claim_of BACK old.view).image =
     r.claimed BACK (claim_of BACK old.view) (claim_at_low BACK old.view sound (omega arith)) (subst (λ n. On (claim_of BACK old.view) n) (sym is) b.stands) in
@@ -49,7 +50,8 @@ starts cell first key words old now sound sound_now b is r =
       sound = sound;
       back = b;
       first_is = is;
-      come = (page_of first words, ap (λ (l : List Held). get_elem? l 0) parts, r, sound_now);
+      come = (page_of first words, ap (λ (l : List Held). get_elem? l 0) parts, r, law.sound);
+      law = law;
       front = [];
       node = first;
       rest = claim.rest;
@@ -159,8 +161,8 @@ module _ {cell first : ℕ} {key : KeyWords} {at : ℕ} {words : List ℕ} {old 
   back_still = let k = kept_back (come_kept cell (2 * first) at old now way.come) b in (k, omega (arith, way.first_is))
 
   pub goes_on : (link : ℕ) (read : List ℕ) (new : SeatData) → Next link → next_word words ≢ END → key_in (record_in words) ≢ key_number key
-      → HasPassed cell (2 * first) (page_of link read) now new → OnTheWay cell first key (at + 1) read old new
-  goes_on link read new n ne apart h =
+      → HasPassed cell (2 * first) (page_of link read) now new → IsSeat new → OnTheWay cell first key (at + 1) read old new
+  goes_on link read new n ne apart h law =
       let same : read ≡ n.held.words = passed_words cell (2 * first) (page_of link read) now new (come_sound cell (2 * first) at old now way.come) h
       ∙ (ap (λ (l : List Held). words_in l link) (kept_pages (come_kept cell (2 * first) at old now way.come)) ∙ words_at link pages (suc at) n.held claim.once n.place n.node_is) in
       let held_is : n.held ≡ page_of link read = λ i. record { node = n.node_is i; words = sym same i } in
@@ -171,6 +173,7 @@ module _ {cell first : ℕ} {key : KeyWords} {at : ℕ} {words : List ℕ} {old 
         back = way.back;
         first_is = way.first_is;
         come = subst (λ m. HasCome cell (2 * first) m old new) more (now, page_of link read, way.come, place, h);
+        law = law;
         front = way.front ++ page ∷ [];
         node = link;
         rest = n.rest;

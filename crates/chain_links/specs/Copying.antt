@@ -1,7 +1,8 @@
 -- What copies of a chain's front do and leave.
-use Rattle.std.specs.Prelude.{◌≡◌, ◌≢◌, ℕ, ◌+◌, ◌≤◌, true, false, List, [], ◌∷◌, ◌++◌, length}
+use Rattle.std.specs.Prelude.{◌≡◌, ◌≢◌, ⊤, ℕ, ◌+◌, ◌<◌, ◌≤◌, true, false, List, [], ◌∷◌, ◌++◌, length}
+use Rattle.chain_links.specs.Following.{IsRemoved, IsReplaced}
 use Rattle.chain_links.specs.declared.answers.Edit.{Edit}
-use Rattle.chain_links.specs.declared.answers.Edit.TheVariants.{Insert}
+use Rattle.chain_links.specs.declared.answers.Edit.TheVariants.{Insert, Remove, Replace}
 use Rattle.chain_links.specs.declared.answers.Front.{Front}
 use Rattle.chain_links.specs.declared.answers.Front.TheVariants.{Ready, Moved}
 use Rattle.node_pool.specs.Pool.{load_steps, store_steps}
@@ -15,11 +16,21 @@ use Rattle.step_rules.specs.Views.{claim_of, claimed_records, counted, words_in}
 use Rattle.step_rules.specs.World.{has, nodes_of}
 use Rattle.step_rules.specs.declared.view.Counted.{Counted}
 use Rattle.step_rules.specs.declared.view.Held.{Held}
+use Rattle.step_rules.specs.declared.view.View.{View}
 use Rattle.step_rules.specs.declared.view.Kind.TheVariants.{NodeStore}
 
--- as many nodes are free as the edit needs: one for an insert into an empty bucket, and two beside other records
+-- as many nodes are free as the edit needs: one for an insert into an empty bucket, and two beside other records; for a replace those of all
+-- records up to its place, and for a remove those of the records before its place, but one at least
 abbrev pub HasFree : Edit → SeatData → Type 0
 HasFree (Insert key val) seat = (claimed_records seat.view ≡ [] → 1 ≤ length seat.free) × (claimed_records seat.view ≢ [] → 2 ≤ length seat.free)
+HasFree (Replace at val) seat = at + 1 ≤ length seat.free
+HasFree (Remove at) seat = (1 ≤ length seat.free) × (at ≤ length seat.free)
+
+-- the claimed chain has a record at the place that the edit names
+abbrev pub IsPlace : Edit → View → Type 0
+IsPlace (Insert key val) v = ⊤
+IsPlace (Replace at val) v = at < length (claimed_records v)
+IsPlace (Remove at) v = at < length (claimed_records v)
 
 -- a node was taken by one store, and then filled with these words
 abbrev pub put_steps : ℕ → List ℕ → ℕ → List Counted
@@ -67,6 +78,8 @@ pub record HoldsCopy (node : ℕ) (change : Change) (before now : SeatData) : Ty
   }) before) { free = now.free; holding = now.holding }
 
 -- what comes of an edit; an insert puts the pair before all other records, and is never moved
-abbrev pub IsCopied : Edit → Front → SeatData → SeatData → Type 0
-IsCopied (Insert key val) (Ready node) before now = HoldsCopy node (put (pair key val)) before now
-IsCopied (Insert key val) Moved before now = ⊥
+abbrev pub IsCopied : ℕ → Edit → Front → SeatData → SeatData → Type 0
+IsCopied cell (Insert key val) (Ready node) before now = HoldsCopy node (put (pair key val)) before now
+IsCopied cell (Insert key val) Moved before now = ⊥
+IsCopied cell (Replace at val) front before now = IsReplaced cell at val front before now
+IsCopied cell (Remove at) front before now = IsRemoved cell at front before now

@@ -1,2 +1,4 @@
 pub mod Copying
+pub mod Following
+pub mod Parts
 pub mod Walking

@@ -16,6 +16,10 @@ pub enum Walk {
 pub enum Edit {
     /// A new record before all others.
     Insert { key: KeyWords, val: ValWords },
+    /// A new value for the key of the record at this position.
+    Replace { at: u32, val: ValWords },
+    /// The record at this position falls out.
+    Remove { at: u32 },
 }
 
 /// What comes of copying a chain's front.

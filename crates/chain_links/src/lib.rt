@@ -2,7 +2,9 @@
 #![tactic(auto)]
 
 mod answers;
+mod copied;
 mod fronts;
+mod links;
 mod pages;
 mod walks;
 

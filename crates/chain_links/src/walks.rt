@@ -1,7 +1,7 @@
 //! Walks.
 ghost use Rattle.std.specs.Prelude.{◌≡◌, ◌/◌, true};
 ghost use Rattle.chain_links.specs.Walking.{HasBack, HasTurned, IsWalked};
-ghost use Rattle.step_rules.specs.SeatData.{IsOf};
+ghost use Rattle.step_rules.specs.SeatData.{IsOf, IsSeat};
 ghost use Rattle.step_rules.specs.Views.{claimed_pages};
 ghost use Rattle.step_rules.specs.World.{has, nodes_of};
 
@@ -19,11 +19,10 @@ pub fn walk(shared: &Shared, seat: &mut Seat, cell: u32, key: KeyWords) -> Walk
     requires ours { IsOf shared.now seat.old }
     requires back { HasBack cell seat.old.view }
     ensures walked { IsWalked cell key result seat.old seat.new }
+    ensures law { IsSeat seat.new }
 {
-    seat.law();
     let first = seat.claim_word(Claim::Back.number()) - 1;
     let mut words = node_words(shared, seat, first as u32);
-    seat.law();
     let mut at = 0;
     'links: loop {
         let next = words[WIDTH];
@@ -47,25 +46,23 @@ pub fn walk(shared: &Shared, seat: &mut Seat, cell: u32, key: KeyWords) -> Walk
 
 // Announces a link of the chain that the node of `seen` heads, looks at the cell again, and reads the
 // link where the cell names that node still.
-fn read_link(shared: &Shared, seat: &mut Seat, cell: u32, seen: u64, link: u32) -> Option<NodeWords>
+pub(crate) fn read_link(
+    shared: &Shared,
+    seat: &mut Seat,
+    cell: u32,
+    seen: u64,
+    link: u32,
+) -> Option<NodeWords>
     requires ours { IsOf shared.now seat.old }
     requires back { (back : HasBack cell seat.old.view) × (back.node ≡ seen / 2) }
     requires page { has (nodes_of (claimed_pages seat.old.view)) link ≡ true }
+    requires law { IsSeat seat.old }
     ensures turned { HasTurned cell seen link result seat.old seat.new }
+    ensures law { IsSeat seat.new }
 {
-    seat.law();
     announce(shared, seat, Claim::Walk, link);
-    seat.law();
     match recheck(shared, seat, Claim::Walk, cell, seen) {
-        Recheck::Other(_) => {
-            seat.law();
-            None
-        }
-        Recheck::Same(_) => {
-            seat.law();
-            let words = node_words(shared, seat, link);
-            seat.law();
-            Some(words)
-        }
+        Recheck::Other(_) => None,
+        Recheck::Same(_) => Some(node_words(shared, seat, link)),
     }
 }

@@ -6,7 +6,7 @@ pub fill-requires-clause-held : goal.fill-requires-clause-held
 fill-requires-clause-held c = taken_held c.take-node.ensures.taken
 
 pub fill-requires-clause-unannounced : goal.fill-requires-clause-unannounced
-fill-requires-clause-unannounced c = taken_unannounced c.law.ensures c.take-node.ensures.taken
+fill-requires-clause-unannounced c = taken_unannounced c.requires.law c.take-node.ensures.taken
 
 pub returns-clause-put : goal.returns-clause-put
 returns-clause-put c = is_put c.take-node.ensures.taken c.fill.ensures.filled

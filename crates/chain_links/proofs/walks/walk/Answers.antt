@@ -7,30 +7,31 @@ use Rattle.chain_links.proofs.walks.walk.Goals as goal
 pub overflow_cast-first : goal.overflow_cast-first
 overflow_cast-first c = omega (
   arith,
-  first_low c.args.cell c.args.seat.now.view c.law.ensures.sound c.requires.back,
-  first_node c.number.result c.claim_word-first.result c.args.cell c.args.seat.now.view c.requires.back c.number.ensures c.claim_word-first.ensures,
+  first_low c.args.cell c.args.seat.now.view c.claim_word-first.ensures.law.sound c.requires.back,
+  first_node c.number.result c.claim_word-first.result c.args.cell c.args.seat.now.view c.requires.back c.number.ensures c.claim_word-first.ensures.word,
 )
 
 pub links-init : goal.links-init
-links-init c = starts c.args.cell (c.claim_word-first.result - 1) c.args.key c.node_words-words.result c.args.seat.now c.node_words-words.new.seat c.law.ensures.sound c.law-2.ensures.sound
+links-init c = starts
+    c.args.cell (c.claim_word-first.result - 1) c.args.key c.node_words-words.result c.args.seat.now c.node_words-words.new.seat c.claim_word-first.ensures.law.sound c.node_words-words.ensures.law
     c.requires.back
-    (first_node c.number.result c.claim_word-first.result c.args.cell c.args.seat.now.view c.requires.back c.number.ensures c.claim_word-first.ensures) c.node_words-words.ensures.read
+    (first_node c.number.result c.claim_word-first.result c.args.cell c.args.seat.now.view c.requires.back c.number.ensures c.claim_word-first.ensures.word) c.node_words-words.ensures.read
 
-pub returns-then-next : goal.returns-then-next
-returns-then-next c = record { walked = empty c.links.invariant c.if-next.true }
+pub returns-then-next-clause-walked : goal.returns-then-next-clause-walked
+returns-then-next-clause-walked c = empty c.links.invariant c.if-next.true
 
 pub overflow_add-result : goal.overflow_add-result
 overflow_add-result c = omega (arith, few c.links.invariant)
 
-pub returns-then-next-eq0 : goal.returns-then-next-eq0
-returns-then-next-eq0 c = record { walked = last c.links.invariant c.if-next.false (λ q. false≢true (sym c.if-has_key.false ∙ c.has_key.ensures.1 q)) c.if-next-eq0.true }
+pub returns-then-next-eq0-clause-walked : goal.returns-then-next-eq0-clause-walked
+returns-then-next-eq0-clause-walked c = last c.links.invariant c.if-next.false (λ q. false≢true (sym c.if-has_key.false ∙ c.has_key.ensures.1 q)) c.if-next-eq0.true
 
 pub overflow_mul-first : goal.overflow_mul-first
 overflow_mul-first c = omega (
   arith,
-  first_low c.args.cell c.args.seat.now.view c.law.ensures.sound c.requires.back,
+  first_low c.args.cell c.args.seat.now.view c.claim_word-first.ensures.law.sound c.requires.back,
   c.links.invariant.first_is,
-  first_node c.number.result c.claim_word-first.result c.args.cell c.args.seat.now.view c.requires.back c.number.ensures c.claim_word-first.ensures,
+  first_node c.number.result c.claim_word-first.result c.args.cell c.args.seat.now.view c.requires.back c.number.ensures c.claim_word-first.ensures.word,
 )
 
 pub overflow_cast-next : goal.overflow_cast-next
@@ -45,12 +46,12 @@ read_link-requires-clause-back c = back_still c.links.invariant
 pub read_link-requires-clause-page : goal.read_link-requires-clause-page
 read_link-requires-clause-page c = on_chain c.links.invariant _ (next c.links.invariant _ c.if-next.false c.if-next-eq0.false refl)
 
-pub returns-in-None : goal.returns-in-None
-returns-in-None c = record { walked = moved c.links.invariant _ c.read_link.new.seat (next c.links.invariant _ c.if-next.false c.if-next-eq0.false refl) c.in-None.ensures.turned }
+pub returns-in-None-clause-walked : goal.returns-in-None-clause-walked
+returns-in-None-clause-walked c = moved c.links.invariant _ c.read_link.new.seat (next c.links.invariant _ c.if-next.false c.if-next-eq0.false refl) c.in-None.ensures.turned
 
 pub overflow_add-at : goal.overflow_add-at
 overflow_add-at c = omega (arith, few c.links.invariant)
 
 pub links-preserved : goal.links-preserved
 links-preserved c = goes_on c.links.invariant _ c.in-Some.found c.read_link.new.seat (next c.links.invariant _ c.if-next.false c.if-next-eq0.false refl) c.if-next.false
-    (λ q. false≢true (sym c.if-has_key.false ∙ c.has_key.ensures.1 q)) c.in-Some.ensures.turned
+    (λ q. false≢true (sym c.if-has_key.false ∙ c.has_key.ensures.1 q)) c.in-Some.ensures.turned c.in-Some.ensures.law
