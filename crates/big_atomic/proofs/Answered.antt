@@ -313,10 +313,11 @@ pub goes_of : {shared : ObjectData} {k : ℕ} {found : Option ℕ} {steps : List
 goes_of g of = of_then g.object (ap (λ (z : View). z.plan) g.only) of
 
 -- the seat is ready after a call that leaves its held record
-pub ready_after : (shared : ObjectData) (before after : SeatData) → IsReady shared before → IsOf shared after → after.holding ≡ [] → (claim_of BACK after.view).word ≡ 0
+pub ready_after : (shared : ObjectData) (before after : SeatData) → IsReady shared before → IsOf shared after → IsSeat after → after.holding ≡ [] → (claim_of BACK after.view).word ≡ 0
     → (claim_of WALK after.view).word ≡ 0 → (claim_of OWN after.view).word ≡ 0 → HoldStays before after → IsReady shared after
-ready_after shared before after r ours idle back walk own h = record {
+ready_after shared before after r ours law idle back walk own h = record {
   ours = ours;
+  law = law;
   idle = idle;
   back = back;
   walk = walk;
@@ -327,13 +328,14 @@ ready_after shared before after r ours idle back walk own h = record {
 
 -- and after a call that ended its Back claim and stood
 pub ready_now : {reg look q : ℕ} {call : Call} {reply : Reply} {steps : List Counted} {before now : SeatData} (shared : ObjectData) (after : SeatData) → IsReady shared before
-    → MayEnd reg look q call reply steps before now → EndsAs q call reply now after
+    → MayEnd reg look q call reply steps before now → EndsAs q call reply now after → IsSeat after
     → (claim_of WALK now.view).word ≡ 0 → (claim_of OWN now.view).word ≡ 0 → HoldStays before after → IsReady shared after
-ready_now {q = q} {call = call} {reply = reply} {before = before} {now = now} shared after r m is walk own h =
+ready_now {q = q} {call = call} {reply = reply} {before = before} {now = now} shared after r m is law walk own h =
     let sound : Sound now.view = m.goes.sound in
     let ended = ended_back now sound in
     ready_after shared before after r
     (of_then (ap (λ (z : SeatData). z.object) is) (ap (λ (z : SeatData). z.view.plan) is) (goes_of m.goes r.ours))
+    law
     (ap (λ (z : SeatData). z.holding) is ∙ m.idle_now)
     (ap (λ (z : SeatData). (claim_of BACK z.view).word) is ∙ back_cleared now.view sound)
     (ap (λ (z : SeatData). (claim_of WALK z.view).word) is ∙ (ap (λ (x : Claim). x.word) (ended.others WALK (λ q. absurd (omega arith))) ∙ walk))
@@ -353,4 +355,4 @@ pub ended_as : {shared : ObjectData} {reg look q : ℕ} {call : Call} {reply : R
 ended_as {shared} {now} {final} began m is law hold walk own keeps =
     let ended = ended_back now m.goes.sound in
     let stays = hold_stays final m ended is hold keeps in
-    record { has = answered_now final m ended is law; hold = stays; ready = ready_now shared final began.ready m is walk own stays }
+    record { has = answered_now final m ended is law; hold = stays; ready = ready_now shared final began.ready m is law walk own stays }

@@ -182,8 +182,8 @@ decides {word} o claim r law = record {
 }
 
 -- A CALL BEGAN WITH LOOKS
-pub begins : {shared : ObjectData} {reg : ℕ} {seat : SeatData} → IsReady shared seat → reg < shared.plan.registers → 0 < seat.view.changes → IsSeat seat → Began shared reg seat
-begins ready there left law = record { ready = ready; there = there; left = left; law = law }
+pub begins : {shared : ObjectData} {reg : ℕ} {seat : SeatData} → IsReady shared seat → reg < shared.plan.registers → 0 < seat.view.changes → Began shared reg seat
+begins ready there left = record { ready = ready; there = there; left = left }
 
 pub seen_only : {shared : ObjectData} {reg word : ℕ} {before now : SeatData} → Began shared reg before → (s : HasSeen BACK reg word before now) → HasOnlyLooked shared reg s.steps s.look before now
 seen_only began s = record {

@@ -128,7 +128,10 @@ module _ {node : ℕ} {words : List ℕ} {before taken filled now : SeatData} (p
       record {
         steps = steps;
         goes = goes first last;
-        looks = record { none_exchanged = still_exchanges steps steps_still; none_scanned = omega (arith, scan_loads-append (store_steps node 0 words at) (counted (ClaimStore OWN node) (node + 1) at ∷ []), stores_unscanned node 0 at words) };
+        looks = record {
+          none_exchanged = still_exchanges steps steps_still;
+          none_scanned = omega (arith, scan_loads-append (store_steps node 0 words at) (counted (ClaimStore OWN node) (node + 1) at ∷ []), stores_unscanned node 0 at words);
+        };
         none_lost = still_lost steps steps_still;
         few = omega (arith, length-append (store_steps node 0 words at) (counted (ClaimStore OWN node) (node + 1) at ∷ []), stores_length node 0 at words, ap length is, length-append rec (0 ∷ []));
         free = subst (λ (l : List ℕ). IsWithout node before.free l) (sym free) p.takes.free;

@@ -49,10 +49,10 @@ pub record HasReadRegister (c reg word : ℕ) (rec : List ℕ) (before now : Sea
   pub there : reg < before.view.plan.registers
   pub claimed : HasClaimedRecord c reg word rec before now
 
-pub has_read : {shared : ObjectData} {c reg word : ℕ} {rec : List ℕ} {before now : SeatData} → IsSeat before → IsReady shared before → reg < shared.plan.registers
+pub has_read : {shared : ObjectData} {c reg word : ℕ} {rec : List ℕ} {before now : SeatData} → IsReady shared before → reg < shared.plan.registers
     → HasClaimedRecord c reg word rec before now → HasReadRegister c reg word rec before now
-has_read {reg = reg} first ready there claimed = record {
-  first = first;
+has_read {reg = reg} ready there claimed = record {
+  first = ready.law;
   idle = ready.idle;
   there = subst (λ (p : Plan). reg < p.registers) (sym ready.ours.plan) there;
   claimed = claimed;
@@ -128,8 +128,8 @@ module _ {c reg word : ℕ} {rec : List ℕ} {before now : SeatData} (r : HasRea
         hold = load_hold back after is;
       }
 
-  pub load_ready : c ≡ BACK → (shared : ObjectData) (after : SeatData) → IsReady shared before → LoadStood after → IsReady shared after
-  load_ready back shared after ready is = ready_now shared after ready load_ends is
+  pub load_ready : c ≡ BACK → (shared : ObjectData) (after : SeatData) → IsReady shared before → LoadStood after → IsSeat after → IsReady shared after
+  load_ready back shared after ready is law = ready_now shared after ready load_ends is law
       (ap (λ (x : Claim). x.word) (seen.stays.others WALK (λ e. absurd (omega arith))) ∙ ready.walk)
       (ap (λ (x : Claim). x.word) (seen.stays.others OWN (λ e. absurd (omega arith))) ∙ ready.own)
       (load_hold back after is)
@@ -168,12 +168,13 @@ module _ {c reg word : ℕ} {rec : List ℕ} {before now : SeatData} (r : HasRea
         quiet = subst (λ (l : List Counted). IsQuiet l before after) (sym a.steps_are) (quiet (Hold reg) Done after e is);
       }
 
-  pub hold_ready : c ≡ HOLD → (shared : ObjectData) (after : SeatData) → IsReady shared before → HoldStood after → IsReady shared after
-  hold_ready one shared after ready is =
+  pub hold_ready : c ≡ HOLD → (shared : ObjectData) (after : SeatData) → IsReady shared before → HoldStood after → IsSeat after → IsReady shared after
+  hold_ready one shared after ready is law =
       let other : (d : ℕ) → d ≢ c → claim_of d after.view ≡ claim_of d before.view = λ d ne. ap (λ (z : SeatData). claim_of d z.view) is ∙ seen.stays.others d ne in
       let holds = holding one after is in
       record {
         ours = of_then (ap (λ (z : SeatData). z.object) is) (ap (λ (z : SeatData). z.view.plan) is) (goes_of goes ready.ours);
+        law = law;
         idle = ap (λ (z : SeatData). z.holding) is ∙ idle_now;
         back = ap (λ (x : Claim). x.word) (other BACK (λ e. absurd (omega arith))) ∙ ready.back;
         walk = ap (λ (x : Claim). x.word) (other WALK (λ e. absurd (omega arith))) ∙ ready.walk;
@@ -332,12 +333,13 @@ module _ {words rec : List ℕ} {n : ℕ} {before mid : SeatData} (r : HasReadHe
         hold = look_hold after is;
       }
 
-  pub look_ready : (shared : ObjectData) (after : SeatData) → IsReady shared before → LookStood after → IsReady shared after
-  look_ready shared after ready is =
+  pub look_ready : (shared : ObjectData) (after : SeatData) → IsReady shared before → LookStood after → IsSeat after → IsReady shared after
+  look_ready shared after ready is law =
       let same : after.view.claims ≡ before.view.claims = ap (λ (z : SeatData). z.view.claims) is ∙ ap (λ (z : SeatData). z.view.claims) read_same in
       let word : (d : ℕ) → (claim_of d after.view).word ≡ (claim_of d before.view).word = λ d. ap (λ (l : List Claim). (get_or l d (silent 0)).word) same in
       ready_after shared before after ready
       (of_then (ap (λ (z : SeatData). z.object) is) (ap (λ (z : SeatData). z.view.plan) is) (goes_of look_goes ready.ours))
+      law
       (ap (λ (z : SeatData). z.holding) is ∙ (ap (λ (z : SeatData). z.holding) read_same ∙ ready.idle))
       (word BACK ∙ ready.back)
       (word WALK ∙ ready.walk)
@@ -396,8 +398,8 @@ module _ {before mid : SeatData} (r : HasReleased before mid) where
         none_held = none_held after is;
       }
 
-  pub release_ready : (shared : ObjectData) (after : SeatData) → IsReady shared before → ReleaseStood after → IsReady shared after
-  release_ready shared after ready is =
+  pub release_ready : (shared : ObjectData) (after : SeatData) → IsReady shared before → ReleaseStood after → IsSeat after → IsReady shared after
+  release_ready shared after ready is law =
       let old : List Claim = before.view.claims in
       let claims : after.view.claims ≡ set old HOLD (silent 0) = ap (λ (z : SeatData). z.view.claims) is ∙ ap (λ (z : View). z.claims) clear_view in
       let word : (d : ℕ) → (claim_of d after.view).word ≡ (get_or (set old HOLD (silent 0)) d (silent 0)).word = λ d. ap (λ (l : List Claim). (get_or l d (silent 0)).word) claims in
@@ -405,6 +407,7 @@ module _ {before mid : SeatData} (r : HasReleased before mid) where
       λ d ne. word d ∙ ap (λ (x : Claim). x.word) (get_or-set_other old HOLD d (silent 0) (silent 0) ne) in
       record {
         ours = of_then (ap (λ (z : SeatData). z.object) is) (ap (λ (z : SeatData). z.view.plan) is) (goes_of release_goes ready.ours);
+        law = law;
         idle = ap (λ (z : SeatData). z.holding) is ∙ (ap (λ (z : SeatData). z.holding) r.cleared ∙ ready.idle);
         back = other BACK (λ e. absurd (omega arith)) ∙ ready.back;
         walk = other WALK (λ e. absurd (omega arith)) ∙ ready.walk;

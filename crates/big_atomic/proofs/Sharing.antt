@@ -28,11 +28,12 @@ none_held true e = absurd (false≢true e)
 none_held false e = refl
 
 -- a quiet seat is ready
-pub quiet_ready : (shared : ObjectData) (seat : SeatData) → IsOf shared seat → is_quiet seat ≡ true → IsReady shared seat
-quiet_ready shared seat ours quiet =
+pub quiet_ready : (shared : ObjectData) (seat : SeatData) → IsOf shared seat → IsSeat seat → is_quiet seat ≡ true → IsReady shared seat
+quiet_ready shared seat ours law quiet =
     let outer = and_parts (not (holds_record seat.view)) (is_empty seat.holding && all_zero (claim_words seat.view)) quiet in
     let inner = and_parts (is_empty seat.holding) (all_zero (claim_words seat.view)) outer.1 in record {
       ours = ours;
+      law = law;
       idle = none_there seat.holding inner.0;
       back = zero_at seat.view.claims BACK inner.1;
       walk = zero_at seat.view.claims WALK inner.1;
@@ -46,6 +47,7 @@ pub fresh_ready : (shared : ObjectData) (seat : SeatData) → IsOf shared seat �
 fresh_ready shared seat ours law fresh =
     let unused = law.unused fresh in record {
       ours = ours;
+      law = law;
       idle = unused.holding;
       back = ap (λ claims. (slice_index_or claims BACK (silent 0)).word) unused.claims;
       walk = ap (λ claims. (slice_index_or claims WALK (silent 0)).word) unused.claims;
@@ -64,15 +66,15 @@ four_zero (x ∷ y ∷ z ∷ w ∷ []) four a b c d = λ i. (a i == 0) && ((b i 
 four_zero (x ∷ y ∷ z ∷ w ∷ v ∷ r) four a b c d = absurd (omega arith)
 
 -- a ready seat that holds no record is quiet
-pub ready_quiet : (shared : ObjectData) (seat : SeatData) → IsSeat seat → IsReady shared seat → holds_record seat.view ≡ false → is_quiet seat ≡ true
-ready_quiet shared seat law ready none =
-    let zeros : all_zero (claim_words seat.view) ≡ true = four_zero seat.view.claims law.sound.claims.four ready.back ready.walk ready.own (ready.hold none) in
+pub ready_quiet : (shared : ObjectData) (seat : SeatData) → IsReady shared seat → holds_record seat.view ≡ false → is_quiet seat ≡ true
+ready_quiet shared seat ready none =
+    let zeros : all_zero (claim_words seat.view) ≡ true = four_zero seat.view.claims ready.law.sound.claims.four ready.back ready.walk ready.own (ready.hold none) in
     λ i. not (none i) && (is_empty (ready.idle i) && zeros i)
 
 -- a seat of one number that made no step but splits was in no call
-pub fresh_unused : (shared : ObjectData) (seat : SeatData) → IsReady shared seat → IsSeat seat → seat.fresh ≡ true → length seat.view.numbers ≡ 1 → IsUnused shared seat
-fresh_unused shared seat ready law fresh one =
-    let unused = law.unused fresh in
+pub fresh_unused : (shared : ObjectData) (seat : SeatData) → IsReady shared seat → seat.fresh ≡ true → length seat.view.numbers ≡ 1 → IsUnused shared seat
+fresh_unused shared seat ready fresh one =
+    let unused = ready.law.unused fresh in
     let all : seat.view.plan.changes * 1 ≡ seat.view.plan.changes = omega arith in record {
       ready = ready;
       one = one;
@@ -115,8 +117,8 @@ reverse_push : (xs : List SeatData) (x : SeatData) → reverse (xs ++ x ∷ []) 
 reverse_push xs x = reverse-append xs (x ∷ [])
 
 pub split_more : (shared : ObjectData) (seat old kept made : SeatData) (others : List SeatData) → SplitSoFar shared seat old others → IsSplit old kept made → 1 < length old.view.numbers
-    → IsReady shared kept → IsReady shared made → IsSeat made → SplitSoFar shared seat kept (others ++ made ∷ [])
-split_more shared seat old kept made others far split more ready_kept ready_made law = record {
+    → IsReady shared kept → IsReady shared made → SplitSoFar shared seat kept (others ++ made ∷ [])
+split_more shared seat old kept made others far split more ready_kept ready_made = record {
   ready = ready_kept;
   fresh = ap (λ (s : SeatData). s.fresh) split.left ∙ far.fresh;
   first_is = ap (λ (s : SeatData). s.first) split.left ∙ far.first_is;
@@ -124,20 +126,20 @@ split_more shared seat old kept made others far split more ready_kept ready_made
       ∙ (sym (append_assoc kept.view.numbers (number made.view ∷ []) (map number_in (reverse others)))
       ∙ (ap (λ l. l ++ map number_in (reverse others)) (split_numbers old kept made split more) ∙ far.numbers));
   unused = All-push (IsUnused shared) others made far.unused
-      (fresh_unused shared made ready_made law (ap (λ (s : SeatData). s.fresh) split.right) (made_one old kept made split more));
+      (fresh_unused shared made ready_made (ap (λ (s : SeatData). s.fresh) split.right) (made_one old kept made split more));
 }
 
-pub split_whole : (shared : ObjectData) (seat first : SeatData) (made seats : List SeatData) → SplitSoFar shared seat first made → IsSeat first → length first.view.numbers ≤ 1
+pub split_whole : (shared : ObjectData) (seat first : SeatData) (made seats : List SeatData) → SplitSoFar shared seat first made → length first.view.numbers ≤ 1
     → seats ≡ reverse (made ++ first ∷ []) → AreSplit shared seat seats
-split_whole shared seat first made seats far law few is =
-    let one : length first.view.numbers ≡ 1 = omega (arith, law.sound.some_number) in
+split_whole shared seat first made seats far few is =
+    let one : length first.view.numbers ≡ 1 = omega (arith, far.ready.law.sound.some_number) in
     let in_order : seats ≡ first ∷ reverse made = is ∙ reverse_push made first in
     let numbers : map (λ (s : SeatData). number s.view) seats ≡ seat.view.numbers = ap (map number_in) in_order
     ∙ (ap (λ l. l ++ map number_in (reverse made)) (sym (one_number first.view.numbers one)) ∙ far.numbers) in record {
       count = sym (length-map seats number_in) ∙ ap length numbers;
       numbers = numbers;
       unused = subst (All (IsUnused shared)) (sym is) (All-reverse (IsUnused shared) (made ++ first ∷ [])
-          (All-push (IsUnused shared) made first far.unused (fresh_unused shared first far.ready law far.fresh one)));
+          (All-push (IsUnused shared) made first far.unused (fresh_unused shared first far.ready far.fresh one)));
       first = λ s r e. ap (λ l. (slice_index_or l 0 s).first) (sym e ∙ in_order) ∙ far.first_is;
     }
 

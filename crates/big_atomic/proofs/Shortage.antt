@@ -1,6 +1,6 @@
 -- How a call is answered Full.
 use Rattle.std.proofs.Common.{◌≡◌, ◌∙◌, ℕ, ◌+◌, ◌*◌, ◌<◌, ◌≤◌, true, false, List, [], ◌∷◌, ◌++◌, Option}
-use Rattle.std.proofs.Common.{length, take, drop, filter, append_assoc, append-nil, refl, sym, ap, subst, arith, ◌⊎◌, inl, inr, ⊎_elim}
+use Rattle.std.proofs.Common.{length, take, drop, filter, append_assoc, refl, sym, ap, subst, arith, ◌⊎◌, inl, inr, ⊎_elim}
 use Rattle.std.proofs.lemmas.Bool.{and_right, cases_Bool}
 use Rattle.big_atomic.proofs.Answered.{MayEnd, ended_back, held_then, right_at, scanned_since, EndsAs, ended_as}
 use Rattle.big_atomic.proofs.Goings.{calling_then, held_stays}
@@ -102,7 +102,7 @@ module _ {shared : ObjectData} {reg : ℕ} {call : Call} {steps : List Counted} 
   calling = calling_then s.past.calling (scan_goes s.scan s.law_looked s.law reg) (s.scan.claims HOLD (λ e. absurd (omega arith)))
 
   words : FindsOwnWords now.view s.scan.loads
-  words = own_words s.scan s.law_looked s.law s.stands s.past.own (hold_word s.past.began.ready s.past.began.law.sound s.past.calling.goes s.past.calling.hold)
+  words = own_words s.scan s.law_looked s.law s.stands s.past.own (hold_word s.past.began.ready s.past.began.ready.law.sound s.past.calling.goes s.past.calling.hold)
 
   plan_same : now.view.plan ≡ looked.view.plan
   plan_same = ap (λ (z : View). z.plan) (scan_view s.scan s.law_looked s.law)
@@ -146,7 +146,7 @@ module _ {shared : ObjectData} {reg : ℕ} {call : Call} {steps : List Counted} 
   short_end = record {
     goes = calling.goes;
     looked = calling.looked;
-    first = s.past.began.law;
+    first = s.past.began.ready.law;
     there = s.there now.view.plan (subst (λ (p : Plan). reg < p.registers) (sym (ap (λ (z : View). z.plan) calling.goes.only ∙ s.past.began.ready.ours.plan)) s.past.began.there);
     on = s.on now.view.plan;
     late = calling.looked.upto;
@@ -159,7 +159,7 @@ module _ {shared : ObjectData} {reg : ℕ} {call : Call} {steps : List Counted} 
       full : (need free : ℕ) → Full 1 0 ≡ Full need free → (free ≡ length now.free) × HasScanned now.view (drop now.view.since now.view.trail)
       full need free e = (
         (let zero : 0 ≡ free = cc in sym zero) ∙ sym (ap length s.none),
-        scanned_since before.view now.view (steps ++ scan_steps) s.past.began.law.sound (ap (λ (z : View). z.since) calling.goes.only) calling.goes.trail has_scanned,
+        scanned_since before.view now.view (steps ++ scan_steps) s.past.began.ready.law.sound (ap (λ (z : View). z.since) calling.goes.only) calling.goes.trail has_scanned,
       )
 
   abbrev answered_view : View

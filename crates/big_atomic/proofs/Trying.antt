@@ -59,7 +59,7 @@ pub changing_end : {shared : ObjectData} {reg look : ℕ} {steps : List Counted}
 changing_end {reg} {now} q call reply c idle there on late right full = record {
   goes = c.calling.goes;
   looked = c.calling.looked;
-  first = c.began.law;
+  first = c.began.ready.law;
   there = there now.view.plan (subst (λ (p : Plan). reg < p.registers) (sym (ap (λ (z : View). z.plan) c.calling.goes.only ∙ c.began.ready.ours.plan)) c.began.there);
   on = on now.view.plan;
   late = late;
@@ -161,7 +161,7 @@ won_call {after = after} {final = final} t won ended last on keeps spares = reco
   calling = t.changing.calling;
   won = won;
   ended = ends_both after final ended;
-  first = t.changing.began.law;
+  first = t.changing.began.ready.law;
   last = last;
   idle = t.changing.began.ready.idle;
   left = t.changing.began.left;

@@ -257,7 +257,7 @@ module _ {k word node : ℕ} {call : Call} {steps clears : List Counted} {look :
         object = w.ended.object ∙ (ap (λ (z : SeatData). z.object) w.won.won.same ∙ (calling.goes.object ∙ ready.ours.object));
         plan = final_plan ∙ ready.ours.plan;
       })
-      won_holding back walk own won_stays
+      w.last won_holding back walk own won_stays
 
   -- what the call spent
   pub won_scanned : scan_loads all_steps ≡ scan_loads steps

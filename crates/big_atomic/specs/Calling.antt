@@ -19,7 +19,7 @@ use Rattle.step_rules.specs.Bags.{IsWithout}
 use Rattle.step_rules.specs.Claims.{BACK, HOLD, OWN, WALK, On}
 use Rattle.step_rules.specs.History.{GoesOn, NoneOn}
 use Rattle.step_rules.specs.Kinds.Standing.{first_look}
-use Rattle.step_rules.specs.SeatData.{IsOf, IsSeat, ObjectData, SeatData}
+use Rattle.step_rules.specs.SeatData.{IsOf, ObjectData, SeatData}
 use Rattle.step_rules.specs.Sound.{Sound}
 use Rattle.step_rules.specs.Steps.{OnlyStepped, Won, stepped}
 use Rattle.step_rules.specs.Views.{claim_of, counted, look_at, number, stock, words_in}
@@ -143,7 +143,6 @@ pub record Began (shared : ObjectData) (reg : ℕ) (before : SeatData) : Type 0 
   pub ready : IsReady shared before
   pub there : reg < shared.plan.registers
   pub left : 0 < before.view.changes
-  pub law : IsSeat before
 
 -- a call that may change its register, of which no step was more than a look or a load so far
 pub record HasOnlyLooked (shared : ObjectData) (reg : ℕ) (steps : List Counted) (look : ℕ) (before now : SeatData) : Type 0 where

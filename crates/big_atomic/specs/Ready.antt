@@ -1,13 +1,14 @@
 -- A seat between two calls.
 use Rattle.std.specs.Prelude.{◌≡◌, ℕ, List, [], true, false}
 use Rattle.step_rules.specs.Claims.{BACK, HOLD, OWN, WALK}
-use Rattle.step_rules.specs.SeatData.{IsHolding, IsOf, ObjectData, SeatData, holds_record}
+use Rattle.step_rules.specs.SeatData.{IsHolding, IsOf, IsSeat, ObjectData, SeatData, holds_record}
 use Rattle.step_rules.specs.Views.{claim_of}
 
--- any call may be made: the seat is of this object, it holds no node, its Back, Walk and Own words are 0, and its Hold word is 0 unless a record
+-- any call may be made: the seat is of this object and lawful, it holds no node, its Back, Walk and Own words are 0, and its Hold word is 0 unless a record
 -- is held; then the Hold claim stands on that record's node
 pub record IsReady (shared : ObjectData) (seat : SeatData) : Type 0 where
   pub ours : IsOf shared seat
+  pub law : IsSeat seat
   pub idle : seat.holding ≡ []
   pub back : (claim_of BACK seat.view).word ≡ 0
   pub walk : (claim_of WALK seat.view).word ≡ 0

@@ -19,7 +19,6 @@ pub(crate) fn stand_now(shared: &Shared, seat: &mut Seat, call: Call, reply: Rep
 {
     // The place is the end of what the seat has seen.
     seat.stand::<Brand>(shared, call, reply);
-    seat.law();
 }
 
 /// Ends the Back claim, and adds a stand at the end of what the seat has seen.
@@ -29,6 +28,7 @@ pub fn answer_now(shared: &Shared, seat: &mut Seat, call: Call, reply: Reply)
     ensures seat { seat.new ≡ stepped (stood_view (length seat.old.view.seen) call reply (cleared_view BACK seat.old.view)) (unnoted BACK seat.old) }
     ensures law { IsSeat seat.new }
 {
+    // By its law at entry the release leaves the steps since the last stand. The caller owes no law.
     seat.law();
     release(shared, seat, Claim::Back);
     stand_now(shared, seat, call, reply);

@@ -18,15 +18,14 @@ use step_rules::{Seat, Shared, backup_exchange};
 /// Scans where no node is free, and answers whether one is.
 pub(crate) fn make_room(shared: &Shared, seat: &mut Seat) -> bool
     requires ours { IsOf shared.now seat.old }
+    requires law { IsSeat seat.old }
     ensures room { HasRoom result seat.old seat.new }
     ensures law { IsSeat seat.new }
 {
     if seat.free() > 0 {
-        seat.law();
         return true;
     }
     scan(shared, seat);
-    seat.law();
     seat.free() > 0
 }
 
@@ -35,13 +34,13 @@ pub(crate) fn prepare_node(shared: &Shared, seat: &mut Seat, rec: Rec) -> u32
     requires ours { IsOf shared.now seat.old }
     requires free { 0 < length seat.old.free }
     requires own { (claim_of OWN seat.old.view).word ≡ 0 }
+    requires law { IsSeat seat.old }
     ensures prepared { IsPrepared result rec seat.old seat.new }
+    ensures law { IsSeat seat.new }
 {
-    seat.law();
     let node = take(shared, seat);
     fill(shared, seat, node, words_of(rec));
     announce(shared, seat, Claim::Own, node);
-    seat.law();
     node
 }
 
@@ -60,12 +59,11 @@ pub(crate) fn exchange(
     requires front { HoldsFront node call seat.old }
     requires noted { DropsNoted call seat.old }
     requires found { HasNear cell word seat.old.view }
+    requires law { IsSeat seat.old }
     ensures exchanged { Exchanged cell word node call result seat.old seat.new }
     ensures law { IsSeat seat.new }
 {
-    seat.law();
     let found = backup_exchange(shared, seat, cell, word, node, call);
-    seat.law();
     if found == word {
         return Install::Installed;
     }
@@ -73,7 +71,6 @@ pub(crate) fn exchange(
         return Install::Moved(found);
     }
     let again = backup_exchange(shared, seat, cell, found, node, call);
-    seat.law();
     if again == found {
         Install::Installed
     } else {
@@ -89,5 +86,4 @@ pub(crate) fn end_change(shared: &Shared, seat: &mut Seat)
 {
     release(shared, seat, Claim::Own);
     release(shared, seat, Claim::Back);
-    seat.law();
 }

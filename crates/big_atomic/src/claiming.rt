@@ -5,7 +5,7 @@ ghost use Rattle.hazard_claims.specs.Claiming.{claim_number};
 ghost use Rattle.seat_history.specs.declared.words.TheConstants.{WIDTH};
 ghost use Rattle.step_rules.specs.Claims.{HOLD, Tells};
 ghost use Rattle.step_rules.specs.Layout.{cells};
-ghost use Rattle.step_rules.specs.SeatData.{IsOf, holds_record};
+ghost use Rattle.step_rules.specs.SeatData.{IsOf, IsSeat, holds_record};
 ghost use Rattle.step_rules.specs.Steps.{MayLoad};
 
 use hazard_claims::{Claim, Recheck, announce, recheck};
@@ -27,10 +27,10 @@ pub(crate) fn claim_record(shared: &Shared, seat: &mut Seat, claim: Claim, reg: 
     requires tells { Tells (claim_number claim) }
     requires free { claim_number claim ≡ HOLD → holds_record seat.old.view ≡ false }
     ensures claimed { HasClaimedRecord (claim_number claim) reg result.word result.rec seat.old seat.new }
+    ensures law { IsSeat seat.new }
 {
     let word = claim_node(shared, seat, claim, reg);
     let rec = read_record(shared, seat, (word / 2) as u32);
-    seat.law();
     Image { word, rec }
 }
 
@@ -41,7 +41,9 @@ pub fn claim_node(shared: &Shared, seat: &mut Seat, claim: Claim, reg: u32) -> u
     requires tells { Tells (claim_number claim) }
     requires free { claim_number claim ≡ HOLD → holds_record seat.old.view ≡ false }
     ensures claimed { HasClaimed (claim_number claim) reg result seat.old seat.new }
+    ensures law { IsSeat seat.new }
 {
+    // By its law at entry no step changes whether a record is held. The caller owes no law.
     seat.law();
     let mut seen = look_first(shared, seat, reg);
     'turns: loop {
@@ -58,9 +60,10 @@ pub(crate) fn try_claim(shared: &Shared, seat: &mut Seat, claim: Claim, reg: u32
     requires there { reg < cells shared.now.plan }
     requires tells { Tells (claim_number claim) }
     requires free { claim_number claim ≡ HOLD → holds_record seat.old.view ≡ false }
+    requires law { IsSeat seat.old }
     ensures tried { HasTried (claim_number claim) reg result seat.old seat.new }
+    ensures law { IsSeat seat.new }
 {
-    seat.law();
     let seen = look_first(shared, seat, reg);
     claim_once(shared, seat, claim, reg, seen)
 }
@@ -68,12 +71,11 @@ pub(crate) fn try_claim(shared: &Shared, seat: &mut Seat, claim: Claim, reg: u32
 fn look_first(shared: &Shared, seat: &mut Seat, reg: u32) -> u64
     requires ours { IsOf shared.now seat.old }
     requires there { reg < cells shared.now.plan }
+    requires law { IsSeat seat.old }
     ensures looked { LookedOnce reg result seat.old seat.new }
+    ensures law { IsSeat seat.new }
 {
-    seat.law();
-    let word = backup_load(shared, seat, reg);
-    seat.law();
-    word
+    backup_load(shared, seat, reg)
 }
 
 // Announces the node of the word that was found last, and looks again.
@@ -83,14 +85,12 @@ fn claim_once(shared: &Shared, seat: &mut Seat, claim: Claim, reg: u32, seen: u6
     requires tells { Tells (claim_number claim) }
     requires free { claim_number claim ≡ HOLD → holds_record seat.old.view ≡ false }
     requires found { HasFound reg seen seat.old.view }
+    requires law { IsSeat seat.old }
     ensures turned { HasTurned (claim_number claim) reg seen result seat.old seat.new }
+    ensures law { IsSeat seat.new }
 {
-    seat.law();
     announce(shared, seat, claim, (seen / 2) as u32);
-    seat.law();
-    let found = recheck(shared, seat, claim, reg, seen);
-    seat.law();
-    found
+    recheck(shared, seat, claim, reg, seen)
 }
 
 /// Reads the record of a node that the seat holds, or that a claim of it stands on.
@@ -98,6 +98,7 @@ pub(crate) fn read_record(shared: &Shared, seat: &mut Seat, node: u32) -> Rec
     requires ours { IsOf shared.now seat.old }
     requires known { MayLoad node seat.old }
     ensures read { HasRead node result seat.old seat.new }
+    ensures law { IsSeat seat.new }
 {
     record_of(node_words(shared, seat, node))
 }

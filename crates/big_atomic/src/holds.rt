@@ -20,7 +20,6 @@ pub fn hold(shared: &Shared, seat: &mut Seat, reg: u32)
     ensures ready { IsReady shared.now seat.new }
     ensures held { IsHeld reg seat.old seat.new }
 {
-    seat.law();
     claim_record(shared, seat, Claim::Hold, reg);
     stand_now(shared, seat, Call::Hold { reg }, Reply::Done);
 }
@@ -32,10 +31,8 @@ pub fn look(shared: &Shared, seat: &mut Seat) -> Rec
     ensures ready { IsReady shared.now seat.new }
     ensures looked { IsLooked result seat.old seat.new }
 {
-    seat.law();
     let node = held_node(seat);
     let rec = read_record(shared, seat, node);
-    seat.law();
     stand_now(shared, seat, Call::Look, Reply::Words(rec));
     rec
 }
@@ -47,9 +44,7 @@ pub fn release_hold(shared: &Shared, seat: &mut Seat)
     ensures ready { IsReady shared.now seat.new }
     ensures released { IsReleased seat.old seat.new }
 {
-    seat.law();
     release(shared, seat, Claim::Hold);
-    seat.law();
     stand_now(shared, seat, Call::Release, Reply::Done);
 }
 
@@ -58,6 +53,5 @@ fn held_node(seat: &Seat) -> u32
     requires held { (words : List ℕ) × IsHolding words seat.now.view }
     ensures { On (claim_of HOLD seat.now.view) result }
 {
-    seat.law();
     (seat.claim_word(Claim::Hold.number()) - 1) as u32
 }

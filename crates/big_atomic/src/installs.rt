@@ -31,16 +31,12 @@ pub fn install(
     ensures installs { Installs cell seen node call result seat.old seat.new }
     ensures law { IsSeat seat.new }
 {
-    seat.law();
     announce(shared, seat, Claim::Own, node);
-    seat.law();
     let answer = exchange(shared, seat, cell, seen, node, call);
     release(shared, seat, Claim::Own);
-    seat.law();
     let Install::Moved(word) = answer else {
         return Install::Installed;
     };
     put_back_all(shared, seat);
-    seat.law();
     Install::Moved(word)
 }

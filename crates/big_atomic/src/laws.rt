@@ -13,12 +13,12 @@ pub fn fresh_is_ready()
 
 /// A quiet seat is ready: a first seat after a join is.
 pub fn quiet_is_ready()
-    ensures { (shared : ObjectData) (seat : SeatData) → IsOf shared seat → is_quiet seat ≡ true → IsReady shared seat }
+    ensures { (shared : ObjectData) (seat : SeatData) → IsOf shared seat → IsSeat seat → is_quiet seat ≡ true → IsReady shared seat }
 {}
 
 /// A ready seat that holds no record is quiet: it may be joined.
 pub fn ready_is_quiet()
-    ensures { (shared : ObjectData) (seat : SeatData) → IsSeat seat → IsReady shared seat → holds_record seat.view ≡ false → is_quiet seat ≡ true }
+    ensures { (shared : ObjectData) (seat : SeatData) → IsReady shared seat → holds_record seat.view ≡ false → is_quiet seat ≡ true }
 {}
 
 /// A closed object's line counts as its stands do, under every test.

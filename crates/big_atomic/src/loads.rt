@@ -15,7 +15,6 @@ pub fn load(shared: &Shared, seat: &mut Seat, reg: u32) -> Rec
     ensures ready { IsReady shared.now seat.new }
     ensures loaded { IsLoaded reg result seat.old seat.new }
 {
-    seat.law();
     let found = claim_record(shared, seat, Claim::Back, reg);
     answer_now(shared, seat, Call::Load { reg }, Reply::Words(found.rec));
     found.rec

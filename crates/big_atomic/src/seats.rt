@@ -2,7 +2,6 @@
 ghost use Rattle.std.specs.Prelude.{◌≡◌, ◌<◌, All, IfOk, length, true};
 ghost use Rattle.big_atomic.specs.Ready.{IsReady};
 ghost use Rattle.big_atomic.specs.Seats.{AreSplit, IsJoinedAll, IsQuietOf};
-ghost use Rattle.step_rules.specs.SeatData.{IsSeat};
 ghost use Rattle.step_rules.specs.Steps.{IsSplit};
 
 use std::alloc::Global;
@@ -21,7 +20,6 @@ pub fn split_all(alloc: Global, shared: &Shared, seat: Seat) -> Result<Vec<Seat>
     while first.numbers() > 1 {
         seats.push(split_last(alloc, shared, &mut first)?)?;
     }
-    first.law();
     seats.push(first)?;
     seats.reverse();
     Ok(seats)
@@ -34,12 +32,8 @@ fn split_last(alloc: Global, shared: &Shared, seat: &mut Seat) -> Result<Seat, N
     requires more { 1 < length seat.old.view.numbers }
     ensures split { IfOk result (λ made. IsSplit seat.old seat.new made) }
     ensures ready { IfOk result (λ made. IsReady shared.now seat.new × IsReady shared.now made) }
-    ensures law { IfOk result (λ made. IsSeat seat.new × IsSeat made) }
 {
-    let made = shared.split(alloc, seat)?;
-    seat.law();
-    made.law();
-    Ok(made)
+    shared.split(alloc, seat)
 }
 
 /// Takes quiet seats into the first one: it has their numbers and their stands, in order.
@@ -49,8 +43,9 @@ pub fn join_all(shared: &Shared, first: &mut Seat, rest: Vec<Seat>)
     requires theirs { All (IsQuietOf shared.now) rest.items }
     ensures joined { IsJoinedAll shared.now first.old rest.items first.new }
 {
+    // Where no seat is left to take in, the first one is ready by its law. The caller owes none.
+    first.law();
     for seat in rest {
         shared.join(first, seat);
     }
-    first.law();
 }

@@ -2,7 +2,7 @@ ghost use Rattle.std.specs.Prelude.{◌<◌, ℕ, List};
 ghost use Rattle.big_atomic.specs.Calling.{EndsStore, HasTurnedOver, IsChanging, IsWorking};
 ghost use Rattle.big_atomic.specs.Calls.{IsStored};
 ghost use Rattle.big_atomic.specs.Ready.{IsReady};
-ghost use Rattle.step_rules.specs.SeatData.{SeatData};
+ghost use Rattle.step_rules.specs.SeatData.{IsSeat, SeatData};
 ghost use Rattle.step_rules.specs.declared.view.Counted.{Counted};
 
 use crate::answering::answer_now;
@@ -24,10 +24,8 @@ pub fn store(shared: &Shared, seat: &mut Seat, reg: u32, new: Rec) -> Stored
     ensures ready { IsReady shared.now seat.new }
     ensures stored { IsStored reg new result seat.old seat.new }
 {
-    seat.law();
     let call = Call::Store { reg, new };
     let found = claim_record(shared, seat, Claim::Back, reg);
-    seat.law();
     if found.rec == new {
         answer_now(shared, seat, call, Reply::Done);
         return Stored::Done;
@@ -37,7 +35,6 @@ pub fn store(shared: &Shared, seat: &mut Seat, reg: u32, new: Rec) -> Stored
         return Stored::Full { need: 1, free: 0 };
     }
     let node = prepare_node(shared, seat, new);
-    seat.law();
     replace_record(shared, seat, reg, found.word, node, new);
     Stored::Done
 }
@@ -46,6 +43,7 @@ pub fn store(shared: &Shared, seat: &mut Seat, reg: u32, new: Rec) -> Stored
 fn replace_record(shared: &Shared, seat: &mut Seat, reg: u32, word: u64, node: u32, new: Rec)
     requires past { (before : SeatData) × (steps : List Counted) × (look : ℕ) × IsChanging shared.now reg steps look before seat.old }
     requires working { (rec : List ℕ) × IsWorking shared.now reg word node rec new seat.old }
+    requires law { IsSeat seat.old }
     ensures done { EndsStore shared.now reg new seat.old seat.new }
 {
     let mut seen = word;
@@ -69,22 +67,21 @@ fn replace_once(
 ) -> Option<u64>
     requires past { (before : SeatData) × (steps : List Counted) × (look : ℕ) × IsChanging shared.now reg steps look before seat.old }
     requires working { (rec : List ℕ) × IsWorking shared.now reg word node rec new seat.old }
+    requires law { IsSeat seat.old }
     ensures turned { HasTurnedOver shared.now reg node new result seat.old seat.new }
+    ensures law { IsSeat seat.new }
 {
-    seat.law();
     let call = Call::Store { reg, new };
     let Install::Moved(_) = exchange(shared, seat, reg, word, node, call) else {
         end_change(shared, seat);
         return None;
     };
     let found = claim_record(shared, seat, Claim::Back, reg);
-    seat.law();
     if found.rec != new {
         return Some(found.word);
     }
     release(shared, seat, Claim::Own);
     put_back(shared, seat, node);
-    seat.law();
     answer_now(shared, seat, call, Reply::Done);
     None
 }

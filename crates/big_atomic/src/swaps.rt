@@ -32,7 +32,6 @@ pub fn compare_and_swap(shared: &Shared, seat: &mut Seat, reg: u32, old: Rec, ne
     ensures ready { IsReady shared.now seat.new }
     ensures swapped { IsSwapped reg old new result seat.old seat.new }
 {
-    seat.law();
     match try_claim(shared, seat, Claim::Back, reg) {
         Recheck::Same(word) => swap_claimed::<Brand>(shared, seat, reg, word, old, new),
         Recheck::Other(_) => {
@@ -56,7 +55,6 @@ fn swap_claimed<P: Place>(
     ensures ends { SwapsFromLooks shared.now reg old new P.place result seat.old seat.new }
 {
     let rec = read_record(shared, seat, (word / 2) as u32);
-    seat.law();
     if rec != old {
         refuse::<P>(shared, seat, reg, old, new);
         return Swap::No;
@@ -89,10 +87,10 @@ fn swap_record<P: Place>(
     requires free { 0 < length seat.old.free }
     requires idle { seat.old.holding ≡ [] }
     requires own { (claim_of OWN seat.old.view).word ≡ 0 }
+    requires law { IsSeat seat.old }
     ensures ends { EndsSwap shared.now reg old new P.place result seat.old seat.new }
 {
     let node = prepare_node(shared, seat, new);
-    seat.law();
     let call = Call::Swap { reg, old, new };
     let Install::Moved(_) = exchange(shared, seat, reg, word, node, call) else {
         end_change(shared, seat);
@@ -100,7 +98,6 @@ fn swap_record<P: Place>(
     };
     release(shared, seat, Claim::Own);
     put_back(shared, seat, node);
-    seat.law();
     refuse::<P>(shared, seat, reg, old, new);
     Swap::No
 }
@@ -110,11 +107,10 @@ fn swap_record<P: Place>(
 fn refuse<P: Place>(shared: &Shared, seat: &mut Seat, reg: u32, old: Rec, new: Rec)
     requires ours { IsOf shared.now seat.old }
     requires may { MayAnswer (refused_at P.place (SwapCall reg old new) seat.old.view) (SwapCall reg old new) NoReply seat.old }
+    requires law { IsSeat seat.old }
     ensures seat { seat.new ≡ stepped (stood_view (refused_at P.place (SwapCall reg old new) seat.old.view) (SwapCall reg old new) NoReply (cleared_view BACK seat.old.view)) (unnoted BACK seat.old) }
     ensures law { IsSeat seat.new }
 {
-    seat.law();
     release(shared, seat, Claim::Back);
     seat.stand::<Brand>(shared, Call::Swap { reg, old, new }, Reply::No);
-    seat.law();
 }

@@ -131,10 +131,7 @@ fn split(rt: &impl Abort, alloc: Global, shared: &Shared, seat: &mut Seat) -> Re
 {
     assert!(rt; seat.fresh());
     assert!(rt; 1 < seat.numbers());
-    let made = shared.split(alloc, seat)?;
-    seat.law();
-    made.law();
-    Ok(made)
+    Ok(shared.split(alloc, seat)?)
 }
 
 // Takes a seat into the first one.

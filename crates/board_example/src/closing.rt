@@ -25,7 +25,6 @@ pub(crate) fn finish(shared: Shared, member: Member) -> Option<Outcome>
     if seat.numbers() != shared.plan().seats || !seat.quiet() {
         return None;
     }
-    seat.law();
     let closed = shared.close(seat);
     Some(Outcome { closed, yes, torn })
 }

@@ -2,19 +2,19 @@ use Rattle.big_atomic.proofs.Exchanging.{front_again, lost_first, lost_second, n
 use Rattle.big_atomic.proofs.changing.exchange.Goals as goal
 
 pub returns-then-found-word-clause-exchanged : goal.returns-then-found-word-clause-exchanged
-returns-then-found-word-clause-exchanged c = won_first c.law.ensures.sound c.law-2.ensures.sound (c.backup_exchange-found.ensures.won c.if-found-word.true)
+returns-then-found-word-clause-exchanged c = won_first c.requires.law.sound c.backup_exchange-found.ensures.law.sound (c.backup_exchange-found.ensures.won c.if-found-word.true)
 
 pub returns-then-found-word-2-clause-exchanged : goal.returns-then-found-word-2-clause-exchanged
-returns-then-found-word-2-clause-exchanged c = lost_first c.law.ensures.sound c.law-2.ensures.sound
+returns-then-found-word-2-clause-exchanged c = lost_first c.requires.law.sound c.backup_exchange-found.ensures.law.sound
     c.requires.found c.if-found-word-2.true (c.backup_exchange-found.ensures.lost c.if-found-word.false)
 
 pub returns-then-again-found-clause-exchanged : goal.returns-then-again-found-clause-exchanged
-returns-then-again-found-clause-exchanged c = won_second c.law.ensures.sound c.law-2.ensures.sound c.if-found-word.false c.if-found-word-2.false
-    (c.backup_exchange-found.ensures.lost c.if-found-word.false) c.law-3.ensures.sound (c.backup_exchange-again.ensures.won c.if-again-found.true)
+returns-then-again-found-clause-exchanged c = won_second c.requires.law.sound c.backup_exchange-found.ensures.law.sound c.if-found-word.false c.if-found-word-2.false
+    (c.backup_exchange-found.ensures.lost c.if-found-word.false) c.backup_exchange-again.ensures.law.sound (c.backup_exchange-again.ensures.won c.if-again-found.true)
 
 pub returns-else-again-found-clause-exchanged : goal.returns-else-again-found-clause-exchanged
-returns-else-again-found-clause-exchanged c = lost_second c.law.ensures.sound c.law-2.ensures.sound c.if-found-word.false c.if-found-word-2.false
-    (c.backup_exchange-found.ensures.lost c.if-found-word.false) c.requires.may c.requires.found c.law-3.ensures.sound c.if-again-found.false
+returns-else-again-found-clause-exchanged c = lost_second c.requires.law.sound c.backup_exchange-found.ensures.law.sound c.if-found-word.false c.if-found-word-2.false
+    (c.backup_exchange-found.ensures.lost c.if-found-word.false) c.requires.may c.requires.found c.backup_exchange-again.ensures.law.sound c.if-again-found.false
     (c.backup_exchange-again.ensures.lost c.if-again-found.false)
 
 -- the same nodes are held at the second try

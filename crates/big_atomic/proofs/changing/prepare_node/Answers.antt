@@ -9,9 +9,7 @@ fill-requires-clause-held c = taken_held c.take-node.ensures.taken
 pub announce-requires-clause-may : goal.announce-requires-clause-may
 announce-requires-clause-may c = may_announce c.take-node.ensures.taken c.fill.ensures.filled
 
-pub returns : goal.returns
-returns c = record {
-  prepared = is_prepared
-      (record { takes = c.take-node.ensures.taken; fills = c.fill.ensures.filled; announces = c.announce.ensures.announced })
-      c.args.rec c.words_of.ensures (search rules) c.law.ensures c.law-2.ensures;
-}
+pub returns-clause-prepared : goal.returns-clause-prepared
+returns-clause-prepared c = is_prepared
+    (record { takes = c.take-node.ensures.taken; fills = c.fill.ensures.filled; announces = c.announce.ensures.announced })
+    c.args.rec c.words_of.ensures (search rules) c.requires.law c.announce.ensures.law

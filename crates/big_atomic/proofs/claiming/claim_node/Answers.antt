@@ -6,7 +6,10 @@ use Rattle.hazard_claims.specs.Claiming.{claim_number}
 use Rattle.big_atomic.proofs.claiming.claim_node.Goals as goal
 
 pub turns-init : goal.turns-init
-turns-init c = record { sees = seen_first (claim_number c.args.claim) c.args.reg c.look_first-seen.result c.args.seat.now c.look_first-seen.new.seat c.look_first-seen.ensures.looked }
+turns-init c = record {
+  sees = seen_first (claim_number c.args.claim) c.args.reg c.look_first-seen.result c.args.seat.now c.look_first-seen.new.seat c.look_first-seen.ensures.looked;
+  law = c.look_first-seen.ensures.law;
+}
 
 pub claim_once-requires-clause-ours : goal.claim_once-requires-clause-ours
 claim_once-requires-clause-ours c = goes_of (c.turns.invariant.sees.goes None) c.requires.ours
@@ -14,12 +17,11 @@ claim_once-requires-clause-ours c = goes_of (c.turns.invariant.sees.goes None) c
 pub claim_once-requires-clause-free : goal.claim_once-requires-clause-free
 claim_once-requires-clause-free c is = let s = c.turns.invariant.sees in free_stays c.law.ensures.sound (s.goes None) (c.requires.free is)
 
-pub returns-in-Same : goal.returns-in-Same
-returns-in-Same c = let t = c.in-Same.ensures.turned in record {
-  claimed = (seen_further c.turns.invariant.sees t.0, t.2);
-}
+pub returns-in-Same-clause-claimed : goal.returns-in-Same-clause-claimed
+returns-in-Same-clause-claimed c = let t = c.in-Same.ensures.turned in (seen_further c.turns.invariant.sees t.0, t.2)
 
 pub turns-preserved : goal.turns-preserved
 turns-preserved c = record {
   sees = seen_further c.turns.invariant.sees c.in-Other.ensures.turned.0;
+  law = c.in-Other.ensures.law;
 }

@@ -18,8 +18,6 @@ read_record-rec-requires-clause-known c =
     let h = c.claim_node-word.ensures.claimed in
     may_load (claim_number c.args.claim) (c.claim_node-word.result / 2) c.claim_node-word.new.seat (h.0.goes None).sound (tells_low (claim_number c.args.claim) c.requires.tells) h.1.stands
 
-pub returns : goal.returns
-returns c = record {
-  claimed = claimed_read c.requires.tells
-      (subst (λ (p : Plan). c.args.reg < p.registers) (sym c.requires.ours.plan) c.requires.there) c.claim_node-word.ensures.claimed c.read_record-rec.ensures.read c.law.ensures.sound;
-}
+pub returns-clause-claimed : goal.returns-clause-claimed
+returns-clause-claimed c = claimed_read c.requires.tells
+    (subst (λ (p : Plan). c.args.reg < p.registers) (sym c.requires.ours.plan) c.requires.there) c.claim_node-word.ensures.claimed c.read_record-rec.ensures.read c.read_record-rec.ensures.law.sound

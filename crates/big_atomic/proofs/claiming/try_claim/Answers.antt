@@ -9,10 +9,8 @@ pub claim_once-requires-clause-ours : goal.claim_once-requires-clause-ours
 claim_once-requires-clause-ours c = goes_of (c.look_first-seen.ensures.looked.0 None) c.requires.ours
 
 pub claim_once-requires-clause-free : goal.claim_once-requires-clause-free
-claim_once-requires-clause-free c is = free_stays c.law.ensures.sound (c.look_first-seen.ensures.looked.0 None) (c.requires.free is)
+claim_once-requires-clause-free c is = free_stays c.requires.law.sound (c.look_first-seen.ensures.looked.0 None) (c.requires.free is)
 
-pub returns : goal.returns
-returns c = record {
-  tried = tried (claim_number c.args.claim) c.args.reg c.look_first-seen.result c.claim_once.result c.args.seat.now c.look_first-seen.new.seat c.claim_once.new.seat
-      c.look_first-seen.ensures.looked c.claim_once.ensures.turned;
-}
+pub returns-clause-tried : goal.returns-clause-tried
+returns-clause-tried c = tried (claim_number c.args.claim) c.args.reg c.look_first-seen.result c.claim_once.result c.args.seat.now c.look_first-seen.new.seat c.claim_once.new.seat
+    c.look_first-seen.ensures.looked c.claim_once.ensures.turned

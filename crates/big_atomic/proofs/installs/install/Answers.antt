@@ -40,14 +40,14 @@ put_back_all-requires-clause-unannounced c n held y at = released_stands Own c.e
 
 pub returns-clause-installs : goal.returns-clause-installs
 returns-clause-installs c = has_moved c.args.node c.args.seat.now c.announce.new.seat c.exchange-answer.new.seat c.release.new.seat c.put_back_all.new.seat
-    c.announce.ensures.announced c.law-2.ensures.sound c.in-Moved.ensures.exchanged c.release.ensures.released c.put_back_all.ensures.free
+    c.announce.ensures.announced c.announce.ensures.law.sound c.in-Moved.ensures.exchanged c.release.ensures.released c.put_back_all.ensures.free
 
 pub returns-in_default-clause-installs : goal.returns-in_default-clause-installs
 returns-in_default-clause-installs c = record {
   announced = c.announce.new.seat;
   exchanged = c.exchange-answer.new.seat;
   announces = c.announce.ensures.announced;
-  sound = c.law-2.ensures.sound;
+  sound = c.announce.ensures.law.sound;
   won = c.in_default.ensures.exchanged;
   ends = c.release.ensures.released;
 }

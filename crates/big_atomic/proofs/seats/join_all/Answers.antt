@@ -25,6 +25,7 @@ loop-seat-preserved c =
         };
         quiet = joined.quiet;
       };
+      law = c.join.ensures.law;
       theirs = All-tail (IsQuietOf c.args.shared.now) one rest (subst (λ l. (k : ℕ) → (d : SeatData) → k < length l → IsQuietOf c.args.shared.now (slice_index_or l k d)) steps was.theirs);
       long = let gone = c.in-Some.ensures.steps.1 in let long = was.long in let short = ap length steps in omega arith;
     }
@@ -38,6 +39,6 @@ returns c =
         stands = joined_whole c.loop-seat.first.view.stands (all_stands (into_iter_items c.loop-seat.seat-iterator)) _ (ap all_stands none) was.stands;
         first = was.first;
         quiet = was.ours;
-        ready = quiet_ready c.args.shared.now c.loop-seat.first was.ours.ours was.ours.quiet;
+        ready = quiet_ready c.args.shared.now c.loop-seat.first was.ours.ours was.law was.ours.quiet;
       };
     }

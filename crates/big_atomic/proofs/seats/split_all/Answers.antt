@@ -9,12 +9,12 @@ loop-alloc-preserved c =
     let test = c.numbers.ensures in
     subst (SplitSoFar c.args.shared.now c.args.seat c.split_last.new.seat) (sym c.in_ok-push.ensures.items)
     (split_more c.args.shared.now c.args.seat c.loop-alloc.first c.split_last.new.seat c.in_ok-split_last.field-0 c.loop-alloc.seats.items c.loop-alloc.invariant split.split
-    (omega arith) split.ready.0 split.ready.1 split.law.1)
+    (omega arith) split.ready.0 split.ready.1)
 
 pub returns : goal.returns
 returns c =
     let few = c.loop-alloc-test.false in
     let test = c.numbers.ensures in record {
-      split = split_whole c.args.shared.now c.args.seat c.loop-alloc.first c.loop-alloc.seats.items c.reverse.new.self.items c.loop-alloc.invariant c.law.ensures (omega arith)
+      split = split_whole c.args.shared.now c.args.seat c.loop-alloc.first c.loop-alloc.seats.items c.reverse.new.self.items c.loop-alloc.invariant (omega arith)
           (c.reverse.ensures.items ∙ ap reverse c.in_ok-push-2.ensures.items);
     }

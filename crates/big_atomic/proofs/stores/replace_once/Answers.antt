@@ -16,19 +16,17 @@ exchange-requires-clause-may c = may_store c.requires.working.1 (search rules)
 pub exchange-requires-clause-noted : goal.exchange-requires-clause-noted
 exchange-requires-clause-noted c = drops_alone (Store c.args.reg c.args.new) c.args.seat.now refl c.requires.working.1.none
 
-pub returns-in_default : goal.returns-in_default
-returns-in_default c = record {
-  turned = λ before steps look changing.
-      store_won (record { changing = changing; working = c.requires.working.1; law = c.law.ensures }) c.in_default.ensures.exchanged c.end_change.ensures.seat c.end_change.ensures.law;
-}
+pub returns-in_default-clause-turned : goal.returns-in_default-clause-turned
+returns-in_default-clause-turned c before steps look changing =
+    store_won (record { changing = changing; working = c.requires.working.1; law = c.requires.law }) c.in_default.ensures.exchanged c.end_change.ensures.seat c.end_change.ensures.law
 
 -- the node that is there has the record: the own one is put down
 pub release-requires : goal.release-requires
-release-requires c = record { ours = turn_ours (lost_turn c.requires.working.1 c.in-Moved.ensures.exchanged c.claim_record-found.ensures.claimed c.law-2.ensures) }
+release-requires c = record { ours = turn_ours (lost_turn c.requires.working.1 c.in-Moved.ensures.exchanged c.claim_record-found.ensures.claimed c.claim_record-found.ensures.law) }
 
 pub put_back-requires-clause-ours : goal.put_back-requires-clause-ours
 put_back-requires-clause-ours c = released_ours Own c.claim_record-found.new.seat c.release.new.seat c.release.ensures.released
-    (turn_ours (lost_turn c.requires.working.1 c.in-Moved.ensures.exchanged c.claim_record-found.ensures.claimed c.law-2.ensures))
+    (turn_ours (lost_turn c.requires.working.1 c.in-Moved.ensures.exchanged c.claim_record-found.ensures.claimed c.claim_record-found.ensures.law))
 
 pub put_back-requires-clause-unannounced : goal.put_back-requires-clause-unannounced
 put_back-requires-clause-unannounced c y at = released_stands Own c.claim_record-found.new.seat c.release.new.seat c.args.node y c.release.ensures.released at
@@ -36,23 +34,19 @@ put_back-requires-clause-unannounced c y at = released_stands Own c.claim_record
 pub answer_now-requires : goal.answer_now-requires
 answer_now-requires c =
     let past = c.requires.past in
-    let t = lost_turn c.requires.working.1 c.in-Moved.ensures.exchanged c.claim_record-found.ensures.claimed c.law-2.ensures in
-    let p = turn_down t c.release.ensures.released c.put_back.ensures.free c.law-3.ensures in
+    let t = lost_turn c.requires.working.1 c.in-Moved.ensures.exchanged c.claim_record-found.ensures.claimed c.claim_record-found.ensures.law in
+    let p = turn_down t c.release.ensures.released c.put_back.ensures.free c.put_back.ensures.law in
     record {
       ours = put_ours c.put_back.ensures.free (released_ours Own c.claim_record-found.new.seat c.release.new.seat c.release.ensures.released (turn_ours t));
       may = may_answer (done_end t p (not-false (is_same c.claim_record-found.result.rec c.args.new) (sym c.ne.ensures ∙ c.if-ne.false)) past.3);
     }
 
-pub returns : goal.returns
-returns c = record {
-  turned = λ before steps look changing.
-      let t = lost_turn c.requires.working.1 c.in-Moved.ensures.exchanged c.claim_record-found.ensures.claimed c.law-2.ensures in
-      let p = turn_down t c.release.ensures.released c.put_back.ensures.free c.law-3.ensures in
-      store_done t p (not-false (is_same c.claim_record-found.result.rec c.args.new) (sym c.ne.ensures ∙ c.if-ne.false)) changing c.answer_now.ensures.seat c.answer_now.ensures.law;
-}
+pub returns-clause-turned : goal.returns-clause-turned
+returns-clause-turned c before steps look changing =
+    let t = lost_turn c.requires.working.1 c.in-Moved.ensures.exchanged c.claim_record-found.ensures.claimed c.claim_record-found.ensures.law in
+    let p = turn_down t c.release.ensures.released c.put_back.ensures.free c.put_back.ensures.law in
+    store_done t p (not-false (is_same c.claim_record-found.result.rec c.args.new) (sym c.ne.ensures ∙ c.if-ne.false)) changing c.answer_now.ensures.seat c.answer_now.ensures.law
 
-pub returns-then-ne : goal.returns-then-ne
-returns-then-ne c = record {
-  turned = turned_other (lost_turn c.requires.working.1 c.in-Moved.ensures.exchanged c.claim_record-found.ensures.claimed c.law-2.ensures)
-      (not-true (is_same c.claim_record-found.result.rec c.args.new) (sym c.ne.ensures ∙ c.if-ne.true));
-}
+pub returns-then-ne-clause-turned : goal.returns-then-ne-clause-turned
+returns-then-ne-clause-turned c = turned_other (lost_turn c.requires.working.1 c.in-Moved.ensures.exchanged c.claim_record-found.ensures.claimed c.claim_record-found.ensures.law)
+    (not-true (is_same c.claim_record-found.result.rec c.args.new) (sym c.ne.ensures ∙ c.if-ne.true))

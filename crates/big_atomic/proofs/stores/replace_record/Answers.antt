@@ -7,7 +7,7 @@ use Rattle.step_rules.specs.declared.view.View.{View}
 use Rattle.big_atomic.proofs.stores.replace_record.Goals as goal
 
 pub turns-init : goal.turns-init
-turns-init c = record { works = ([], goes_none c.args.reg c.args.seat.now c.requires.working.1.sound, refl, refl, refl, c.requires.working) }
+turns-init c = record { works = ([], goes_none c.args.reg c.args.seat.now c.requires.working.1.sound, refl, refl, refl, c.requires.working); law = c.requires.law }
 
 pub replace_once-requires-clause-past : goal.replace_once-requires-clause-past
 replace_once-requires-clause-past c =
@@ -35,6 +35,7 @@ turns-preserved c =
         t.4 ∙ w.4,
         t.5,
       );
+      law = c.in-Some.ensures.law;
     }
 
 pub turns-smaller : goal.turns-smaller

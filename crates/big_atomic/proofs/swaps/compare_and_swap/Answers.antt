@@ -18,14 +18,15 @@ use Rattle.big_atomic.proofs.swaps.compare_and_swap.Goals as goal
 pub swap_claimed-requires-clause-past : goal.swap_claimed-requires-clause-past
 swap_claimed-requires-clause-past c =
     let t = c.in-Same.ensures.tried in
-    (c.args.seat.now, t.0.steps, tried_only (begins c.requires.ready c.requires.there c.requires.left c.law.ensures) t.0 t.1)
+    (c.args.seat.now, t.0.steps, tried_only (begins c.requires.ready c.requires.there c.requires.left) t.0 t.1)
 
 pub refuse-requires : goal.refuse-requires
 refuse-requires c =
     let t = c.in-Other.ensures.tried in
     record {
       ours = goes_of (t.0.goes None) c.requires.ready.ours;
-      may = may_refuse c.args.new (tried_refuses (begins c.requires.ready c.requires.there c.requires.left c.law.ensures) t.0 t.1 c.args.old t.3);
+      may = may_refuse c.args.new (tried_refuses (begins c.requires.ready c.requires.there c.requires.left) t.0 t.1 c.args.old t.3);
+      law = c.in-Other.ensures.law;
     }
 
 -- whatever the rest of the call answers
@@ -50,11 +51,11 @@ ends_other {old = old} {new = new} began t stood law =
 
 pub returns-in-Same : goal.returns-in-Same
 returns-in-Same c =
-    let s = ends_same (begins c.requires.ready c.requires.there c.requires.left c.law.ensures) c.in-Same.ensures.tried c.swap_claimed.ensures.ends in
+    let s = ends_same (begins c.requires.ready c.requires.there c.requires.left) c.in-Same.ensures.tried c.swap_claimed.ensures.ends in
     record { ready = s.1; swapped = s.0 }
 
 pub returns-in-Other : goal.returns-in-Other
 returns-in-Other c =
-    let began = begins c.requires.ready c.requires.there c.requires.left c.law.ensures in
+    let began = begins c.requires.ready c.requires.there c.requires.left in
     let s = ends_other {old = c.args.old} {new = c.args.new} began c.in-Other.ensures.tried c.refuse.ensures.seat c.refuse.ensures.law in
     record { ready = s.1; swapped = s.0 }

@@ -11,4 +11,4 @@ pub stand-requires-clause-may : goal.stand-requires-clause-may
 stand-requires-clause-may g c =
     let call = Swap c.args.reg c.args.old c.args.new in
     subst (λ (z : SeatData). MayAnswer (refused_at g.P.Place.place call z.view) call No z) (sym c.release.ensures.released)
-    (may_ended (refused_at g.P.Place.place call c.args.seat.now.view) call No c.args.seat.now c.law.ensures.sound c.requires.may)
+    (may_ended (refused_at g.P.Place.place call c.args.seat.now.view) call No c.args.seat.now c.requires.law.sound c.requires.may)
