@@ -228,14 +228,13 @@ module _ {key : KeyWords} {found : Option (List ℕ)} {before now : SeatData} (m
         hold = hold_stays after find_ends e is f.hold (λ contents held. refl);
       }
 
-  pub find_ready : (shared : ObjectData) (after : SeatData) → IsReady shared before → FindStood after → IsReady shared after
-  find_ready shared after ready is = ready_now shared after ready find_ends is m.walk (ap (λ (x : Claim). x.word) f.own ∙ ready.own)
+  pub find_ready : (shared : ObjectData) (after : SeatData) → IsReady shared before → FindStood after → IsSeat after → IsReady shared after
+  find_ready shared after ready is law = ready_now shared after ready find_ends is law m.walk (ap (λ (x : Claim). x.word) f.own ∙ ready.own)
       (hold_stays after find_ends (ended_back now goes.sound) is f.hold (λ contents held. refl))
 
 -- a find that began with a ready seat
 pub record Begun (shared : ObjectData) (key : KeyWords) (cell : ℕ) (before : SeatData) : Type 0 where
   pub ready : IsReady shared before
-  pub law : IsSeat before
   pub some : 0 < shared.plan.buckets
   pub cell_is : cell ≡ key_cell shared.plan (key_number key)
 
@@ -294,7 +293,6 @@ module _ {shared : ObjectData} {key : KeyWords} {cell : ℕ} {before mid : SeatD
   pub knows : {found : Option (List ℕ)} {now : SeatData} → Walked cell key found before now → KnowsValue shared key found before now
   knows {now = now} w = record {
     ready = c.begun.ready;
-    law = c.begun.law;
     some = c.begun.some;
     finding = subst (λ j. Finding j before now) own_cell w.finding;
     value = w.value;
@@ -305,7 +303,7 @@ pub may_end : {shared : ObjectData} {key : KeyWords} {found : Option (List ℕ)}
 may_end {key = key} {before = before} {now = now} cleared k clears sound =
     let g : Goes (key_cell before.view.plan (key_number key)) None k.finding.steps before now = k.finding.goes None in
     let c = cleared_part (key_cell before.view.plan (key_number key)) now cleared (ap (λ (z : SeatData). z.fresh) k.finding.same) g.sound sound clears in record {
-      first = k.law;
+      first = k.ready.law;
       idle = k.ready.idle;
       some = subst (λ (p : Plan). 0 < p.buckets) (sym k.ready.ours.plan) k.some;
       finding = finding_on (key_cell before.view.plan (key_number key)) c.steps before now cleared k.finding c.part;
@@ -316,6 +314,6 @@ may_end {key = key} {before = before} {now = now} cleared k clears sound =
 pub of_may : {shared : ObjectData} {key : KeyWords} {found : Option (List ℕ)} {before now : SeatData} → IsReady shared before → MayFind key found before now → IsOf shared now
 of_may ready m = of_finding ready m.finding
 
-pub begins : {shared : ObjectData} {before : SeatData} (key : KeyWords) (cell : ℕ) → IsReady shared before → IsSeat before → 0 < shared.plan.buckets → cell ≡ key_cell shared.plan (key_number key)
+pub begins : {shared : ObjectData} {before : SeatData} (key : KeyWords) (cell : ℕ) → IsReady shared before → 0 < shared.plan.buckets → cell ≡ key_cell shared.plan (key_number key)
     → Begun shared key cell before
-begins key cell ready law some is = record { ready = ready; law = law; some = some; cell_is = is }
+begins key cell ready some is = record { ready = ready; some = some; cell_is = is }

@@ -37,7 +37,8 @@ use Rattle.step_rules.specs.declared.view.Counted.{Counted}
 use Rattle.step_rules.specs.declared.view.View.{View}
 
 -- WHAT WAS NEEDED stays so as more is seen
-pub needs_more : {key : KeyWords} {val : List ℕ} {place need : ℕ} {v : View} (w : View) → place ≤ length v.seen → GoesOn v.seen w.seen → w.plan ≡ v.plan → NeedsNodes key val place need v → NeedsNodes key val place need w
+pub needs_more : {key : KeyWords} {val : List ℕ} {place need : ℕ} {v : View} (w : View) → place ≤ length v.seen → GoesOn v.seen w.seen → w.plan ≡ v.plan
+    → NeedsNodes key val place need v → NeedsNodes key val place need w
 needs_more {key} {val} {place} {need} {v} w within on plan n =
     let front : take place w.seen ≡ take place v.seen = ap (take place) on.1 ∙ take-append-le place v.seen on.0 within in
     let contents = ap (λ (l : List Entry). state_at l place) on.1 ∙ state_at-append v.seen on.0 place within in record {
@@ -45,7 +46,8 @@ needs_more {key} {val} {place} {need} {v} w within on plan n =
       needs = subst (λ (rs : List (List ℕ)). Needs rs (Insert key val) need) (λ i. records_at (sym plan i) (sym front i) (cell_of (sym plan i) (Insert key val))) n.needs;
     }
 
-pub wants_more : {key : KeyWords} {val : List ℕ} {look : ℕ} {before : SeatData} {v : View} (w : View) → GoesOn v.seen w.seen → w.plan ≡ v.plan → WantsNodes key val look before v → WantsNodes key val look before w
+pub wants_more : {key : KeyWords} {val : List ℕ} {look : ℕ} {before : SeatData} {v : View} (w : View) → GoesOn v.seen w.seen → w.plan ≡ v.plan
+    → WantsNodes key val look before v → WantsNodes key val look before w
 wants_more {v = v} w on plan n =
     let within = n.within in
     let longer = longer_seen v.seen w.seen on in
@@ -74,8 +76,8 @@ pub record Onward (cell : ℕ) (b : List Counted) (mid now : SeatData) : Type 0 
   pub none_scanned : scan_loads b ≡ 0
   pub free : exchanges b ≡ 0 → now.free ≡ mid.free
 
-pub scans_on : {cell : ℕ} {b : List Counted} {mid now : SeatData} (scanned : Bool) (key : KeyWords) (val : List ℕ) (steps : List Counted) (look : ℕ) (before : SeatData) → Sound mid.view → Onward cell b mid now
-    → Scans scanned key val steps look before mid → Scans scanned key val (steps ++ b) look before now
+pub scans_on : {cell : ℕ} {b : List Counted} {mid now : SeatData} (scanned : Bool) (key : KeyWords) (val : List ℕ) (steps : List Counted) (look : ℕ) (before : SeatData)
+    → Sound mid.view → Onward cell b mid now → Scans scanned key val steps look before mid → Scans scanned key val (steps ++ b) look before now
 scans_on {b = b} false key val steps look before sound o s =
     let none = o.none_scanned in
     let none_before = s.none in record { none = omega (arith, scan_loads-append steps b); retired = o.retired ∙ s.retired }
@@ -130,7 +132,7 @@ module _ {shared : ObjectData} {key : KeyWords} {val : List ℕ} {cell : ℕ} {b
   free_still =
       let stock = i.goes.stock in
       let long = law.long in
-      let first = i.begins.law.long in
+      let first = i.begins.ready.law.long in
       omega (arith, ap (length {A = ℕ}) i.idle, ap (length {A = ℕ}) i.begins.ready.idle, ap (length {A = ℕ}) i.scans.retired)
 
   pub after_scan : {need : ℕ} → (claim_of BACK mid.view).stands ≡ true → NeedsNodes key val (length mid.view.seen) need mid.view → length mid.free < need
@@ -151,7 +153,7 @@ module _ {shared : ObjectData} {key : KeyWords} {val : List ℕ} {cell : ℕ} {b
         hold = s.claims HOLD (λ e. absurd (omega arith)) ∙ i.hold;
         own = ap (λ (x : Claim). x.word) (s.claims OWN (λ e. absurd (omega arith))) ∙ i.own;
         scans = record {
-          scan = scanned_now s law last i.steps (own_words s law last back i.own (hold_word i.begins.ready i.begins.law.sound i.goes i.hold));
+          scan = scanned_now s law last i.steps (own_words s law last back i.own (hold_word i.begins.ready i.begins.ready.law.sound i.goes i.hold));
           all = omega (arith, scan_loads-append i.steps (s.clear ++ s.loads), scan_all s law last);
           retired = s.retired ∙ ap (filter (λ n. names n s.loads)) i.scans.retired;
           few = omega arith;

@@ -116,7 +116,8 @@ module _ {shared : ObjectData} {key : KeyWords} {val : List ℕ} {cell word : �
   )
 
   copy_goes : Goes cell (Some (length mid.view.seen)) copy_steps mid copied
-  copy_goes = goes_still cell copy_steps mid copied (subst (λ (z : View). OnlySteps mid.view z) (sym copied_view) refl) (ap (λ (z : View). z.trail) copied_view) (ap (λ (z : View). z.seen) copied_view)
+  copy_goes = goes_still cell copy_steps mid copied (subst (λ (z : View). OnlySteps mid.view z) (sym copied_view) refl)
+      (ap (λ (z : View). z.trail) copied_view) (ap (λ (z : View). z.seen) copied_view)
       still (ap (λ (z : SeatData). z.object) h.copies.same) (ap (λ (z : SeatData). z.first) h.copies.same) stock_same h.law.sound
 
   copy_claims : (c : ℕ) → claim_of c v ≡ claim_of c mid.view
@@ -246,7 +247,7 @@ module _ {shared : ObjectData} {key : KeyWords} {val : List ℕ} {word : ℕ} {s
   abbrev change : EndsChange shared cell word node (Insert key val) so_far going.look before copied after walked final
   change = record {
     ready = going.begins.ready;
-    first = going.begins.law;
+    first = going.begins.ready.law;
     left = going.begins.left;
     on = refl;
     keeps = λ c held. refl;

@@ -1,5 +1,6 @@
 -- Answers of an insert without a change.
-use Rattle.std.proofs.Common.{◌≡◌, ◌≢◌, ◌∙◌, ℕ, ◌+◌, ◌*◌, ◌<◌, ◌≤◌, suc, Bool, true, false, ◌&&◌, ne_eqb, List, [], ◌∷◌, ◌++◌, Option, is_none, length, drop, refl, sym, ap, subst, arith, ◌⊎◌, inl, inr, ⊎_elim}
+use Rattle.std.proofs.Common.{◌≡◌, ◌≢◌, ◌∙◌, ℕ, ◌+◌, ◌*◌, ◌<◌, ◌≤◌, suc, Bool, true, false, ◌&&◌, ne_eqb, List, [], ◌∷◌, ◌++◌, Option}
+use Rattle.std.proofs.Common.{is_none, length, drop, refl, sym, ap, subst, arith, ◌⊎◌, inl, inr, ⊎_elim}
 use Rattle.std.proofs.lemmas.Bool.{and_right, cases_Bool, cond-false, false≢true}
 use Rattle.std.specs.Option.{option_map_or}
 use Rattle.big_atomic.proofs.Answered.{EndsAs, HasAnswered, MayEnd, answered_now, clear_step, ended_back, held_then, hold_stays, may_answer, ready_now, right_at, scanned_since}
@@ -73,8 +74,8 @@ not_done (Present there) key val scanned steps now k = refl
 not_done (Full count free) key val scanned steps now k = refl
 
 -- it stays so after looks
-knows_on : {cell : ℕ} (answer : Answer) (key : KeyWords) (val : List ℕ) (scanned : Bool) (steps : List Counted) (mid now : SeatData) → (c : Cleared cell mid now) → Knows key val answer scanned steps mid
-    → Knows key val answer scanned (steps ++ c.steps) now
+knows_on : {cell : ℕ} (answer : Answer) (key : KeyWords) (val : List ℕ) (scanned : Bool) (steps : List Counted) (mid now : SeatData) → (c : Cleared cell mid now)
+    → Knows key val answer scanned steps mid → Knows key val answer scanned (steps ++ c.steps) now
 knows_on Done key val scanned steps mid now c k = absurd k
 knows_on (Present there) key val scanned steps mid now c k =
     (ap (λ (l : List Entry). (state_at l (length l)).values (key_number key)) c.seen ∙ k.0, λ e. let tried = k.1 e in omega (arith, exchanges-append steps c.steps))
@@ -86,8 +87,8 @@ knows_on (Full count free) key val scanned steps mid now c k =
       k.3,
     )
 
-pub answer_on : {shared : ObjectData} {key : KeyWords} {val : List ℕ} {cell : ℕ} {answer : Answer} {before mid now : SeatData} → KnowsAnswer shared key val cell answer before mid → Cleared cell mid now
-    → KnowsAnswer shared key val cell answer before now
+pub answer_on : {shared : ObjectData} {key : KeyWords} {val : List ℕ} {cell : ℕ} {answer : Answer} {before mid now : SeatData}
+    → KnowsAnswer shared key val cell answer before mid → Cleared cell mid now → KnowsAnswer shared key val cell answer before now
 answer_on {key = key} {val = val} {answer = answer} {mid = mid} {now = now} k c = record {
   scanned = k.scanned;
   going = going_on k.going (part_onward c.part);
@@ -100,8 +101,8 @@ pub record KnowsCleared (shared : ObjectData) (key : KeyWords) (val : List ℕ) 
   pub walk : (claim_of WALK now.view).word ≡ 0
   pub law : IsSeat now
 
-pub knows_cleared : {shared : ObjectData} {key : KeyWords} {val : List ℕ} {cell : ℕ} {answer : Answer} {before mid now : SeatData} → KnowsAnswer shared key val cell answer before mid → ClearsWalk mid now → IsSeat now
-    → KnowsCleared shared key val answer before now
+pub knows_cleared : {shared : ObjectData} {key : KeyWords} {val : List ℕ} {cell : ℕ} {answer : Answer} {before mid now : SeatData}
+    → KnowsAnswer shared key val cell answer before mid → ClearsWalk mid now → IsSeat now → KnowsCleared shared key val answer before now
 knows_cleared {shared} {key} {val} {cell} {answer} {before} {mid} {now} k clears law =
     let c = cleared_part cell mid now k.going.used k.going.goes.sound law.sound clears in record {
       knows = subst (λ j. KnowsAnswer shared key val j answer before now) (sym k.going.begins.cell_is) (answer_on k c);
@@ -162,7 +163,7 @@ module _ {shared : ObjectData} {key : KeyWords} {val : List ℕ} {answer : Answe
   scanned_for (Present there) known count free e = absurd cc
   scanned_for (Full c f) known count free e = (
     (let same : f ≡ free = cc in sym same) ∙ known.2,
-    scanned_since before.view now.view i.steps i.begins.law.sound (ap (λ (z : View). z.since) i.goes.only) i.goes.trail (made known.1).scan,
+    scanned_since before.view now.view i.steps i.begins.ready.law.sound (ap (λ (z : View). z.since) i.goes.only) i.goes.trail (made known.1).scan,
   )
 
   abbrev reply : Reply
@@ -172,7 +173,7 @@ module _ {shared : ObjectData} {key : KeyWords} {val : List ℕ} {answer : Answe
   told_end = record {
     goes = i.goes;
     looked = i.looked;
-    first = i.begins.law;
+    first = i.begins.ready.law;
     there = subst (λ (p : Plan). 0 < p.buckets) (sym plan) i.begins.some;
     on = ap (λ (p : Plan). key_cell p (key_number key)) plan ∙ i.begins.cell_is;
     late = i.looked.upto;
@@ -263,7 +264,7 @@ module _ {shared : ObjectData} {key : KeyWords} {val : List ℕ} {answer : Answe
 
     pub told : IsReady shared final × IsInserted key val answer before final
     told = (
-      ready_now shared final i.begins.ready told_end is r.walk i.own stays,
+      ready_now shared final i.begins.ready told_end is last r.walk i.own stays,
       record {
         answered = has.answered;
         there = ap (λ (s : Stand). value_at final.view s.place key) has.stand_is

@@ -32,11 +32,10 @@ use Rattle.step_rules.specs.declared.view.Claim.{Claim}
 use Rattle.step_rules.specs.declared.view.View.{View}
 
 -- THE FIRST CLAIM
-pub begins_insert : {shared : ObjectData} {key : KeyWords} {val : List ℕ} {before : SeatData} (cell : ℕ) → IsReady shared before → IsSeat before → 0 < shared.plan.buckets → 0 < before.view.changes
+pub begins_insert : {shared : ObjectData} {key : KeyWords} {val : List ℕ} {before : SeatData} (cell : ℕ) → IsReady shared before → 0 < shared.plan.buckets → 0 < before.view.changes
     → IsWide (Insert key val) → cell ≡ key_cell shared.plan (key_number key) → Begins shared key val cell before
-begins_insert {key = key} cell ready law some left wide is = record {
+begins_insert {key = key} cell ready some left wide is = record {
   ready = ready;
-  law = law;
   some = subst (λ (p : Plan). 0 < p.buckets) (sym ready.ours.plan) some;
   cell_is = ap (λ (p : Plan). key_cell p (key_number key)) ready.ours.plan ∙ sym is;
   left = left;
@@ -76,8 +75,8 @@ next_turn {cell = cell} {word = word} {mid = mid} {now = now} t h = record {
   claim = h.1;
 }
 
-pub turn_smaller : {shared : ObjectData} {key : KeyWords} {val : List ℕ} {cell word next : ℕ} {scanned made : Bool} {before last mid now : SeatData} → IsAtTurn shared key val cell word scanned before last
-    → HasTried shared key val cell made before mid × (length last.view.seen < length mid.view.seen) → HasClaimed BACK cell next mid now
+pub turn_smaller : {shared : ObjectData} {key : KeyWords} {val : List ℕ} {cell word next : ℕ} {scanned made : Bool} {before last mid now : SeatData}
+    → IsAtTurn shared key val cell word scanned before last → HasTried shared key val cell made before mid × (length last.view.seen < length mid.view.seen) → HasClaimed BACK cell next mid now
     → now.view.plan.seats * now.view.plan.changes - length now.view.seen < last.view.plan.seats * last.view.plan.changes - length last.view.seen
 turn_smaller {cell = cell} {last = last} {mid = mid} {now = now} at t h =
     let g : Goes cell None h.0.steps mid now = h.0.goes None in

@@ -187,7 +187,9 @@ way_on cell seen first page old mid now w sound b h =
       found = ap (λ (z : SeatData). z.view.look) h.reads.same ∙ (recheck_found cell seen h.found page.node h.announced h.rechecked near walks r.same h.announced_sound h.rechecked_sound
           ∙ ap (λ (z : SeatData). Some (look_at cell h.found (length z.view.seen))) (sym h.reads.same));
       near = near;
-      fell = let fell = walk_falls cell seen h.found w.word page.node h.announced h.rechecked walks h.announced_sound (kept_back k_announced (kept_back (way_kept w) b)) (still_found page.node mid h.announced h.announces w.found) in
+      fell =
+          let fell = walk_falls cell seen h.found w.word page.node h.announced h.rechecked walks h.announced_sound
+          (kept_back k_announced (kept_back (way_kept w) b)) (still_found page.node mid h.announced h.announces w.found) in
           let fell_before = w.fell in omega arith;
       calm = subst (λ (z : Plan × Claim × List Entry). NoneOn z.0 cell (drop z.1.at z.2)) (λ i. (sym plan_is i, sym back_is i, sym seen_is i)) calm;
     }

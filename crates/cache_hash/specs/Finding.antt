@@ -7,7 +7,7 @@ use Rattle.seat_history.specs.Key.{key_number}
 use Rattle.seat_history.specs.declared.key.KeyWords.{KeyWords}
 use Rattle.step_rules.specs.Claims.{HOLD, OWN}
 use Rattle.step_rules.specs.History.{key_cell}
-use Rattle.step_rules.specs.SeatData.{IsSeat, ObjectData, SeatData}
+use Rattle.step_rules.specs.SeatData.{ObjectData, SeatData}
 use Rattle.step_rules.specs.Steps.{OnlyStepped}
 use Rattle.step_rules.specs.Views.{claim_of}
 use Rattle.step_rules.specs.declared.view.Counted.{Counted}
@@ -27,7 +27,6 @@ pub record Finding (cell : ℕ) (before now : SeatData) : Type 0 where
 -- a find that began with a ready seat has only looked at its key's cell and loaded, and the key's value at the end of what is seen is this
 pub record KnowsValue (shared : ObjectData) (key : KeyWords) (found : Option (List ℕ)) (before now : SeatData) : Type 0 where
   pub ready : IsReady shared before
-  pub law : IsSeat before
   pub some : 0 < shared.plan.buckets
   pub finding : Finding (key_cell before.view.plan (key_number key)) before now
   pub value : value_at now.view (length now.view.seen) key ≡ found

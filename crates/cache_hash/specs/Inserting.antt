@@ -26,7 +26,6 @@ use Rattle.step_rules.specs.declared.view.View.{View}
 -- it began with a ready seat that may change, and this is the cell of its key's bucket
 pub record Begins (shared : ObjectData) (key : KeyWords) (val : List ℕ) (cell : ℕ) (before : SeatData) : Type 0 where
   pub ready : IsReady shared before
-  pub law : IsSeat before
   pub some : 0 < before.view.plan.buckets
   pub cell_is : key_cell before.view.plan (key_number key) ≡ cell
   pub left : 0 < before.view.changes

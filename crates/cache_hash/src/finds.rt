@@ -20,10 +20,8 @@ pub fn find(shared: &Shared, seat: &mut Seat, key: KeyWords) -> Option<ValWords>
     ensures ready { IsReady shared.now seat.new }
     ensures found { IsFound key result seat.old seat.new }
 {
-    seat.law();
-    let cell = bucket_cell(shared, seat, key);
+    let cell = bucket_cell(shared, key);
     claim_node(shared, seat, Claim::Back, cell);
-    seat.law();
     'turns: loop {
         match walk(shared, seat, cell, key) {
             Walk::Found { at: _, val } => {
@@ -48,7 +46,6 @@ fn answer_find(shared: &Shared, seat: &mut Seat, key: KeyWords, found: Option<Va
         → IsReady shared.now seat.new × IsFound key found before seat.new }
 {
     clear_walk(shared, seat);
-    seat.law();
     answer_now(shared, seat, Call::Find { key }, reply_of(found));
 }
 

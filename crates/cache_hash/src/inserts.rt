@@ -24,19 +24,16 @@ pub fn insert(shared: &Shared, seat: &mut Seat, key: KeyWords, val: ValWords) ->
     ensures ready { IsReady shared.now seat.new }
     ensures inserted { IsInserted key val result seat.old seat.new }
 {
-    seat.law();
-    let cell = bucket_cell(shared, seat, key);
+    let cell = bucket_cell(shared, key);
     let pair = Pair { key, val, cell };
     let mut word = claim_node(shared, seat, Claim::Back, cell);
     let mut scanned = false;
-    seat.law();
     'turns: loop {
         match try_insert(shared, seat, pair, word, scanned) {
             Turn::Ends(answer) => return answer,
             Turn::Moved { scanned: made } => scanned = made,
         }
         word = claim_node(shared, seat, Claim::Back, cell);
-        seat.law();
     }
 }
 
@@ -53,10 +50,7 @@ fn try_insert(shared: &Shared, seat: &mut Seat, pair: Pair, word: u64, scanned: 
             answer_insert(shared, seat, pair, answer);
             Turn::Ends(answer)
         }
-        Walk::End { length } => {
-            seat.law();
-            put_in(shared, seat, pair, word, need_beside(length), scanned)
-        }
+        Walk::End { length } => put_in(shared, seat, pair, word, need_beside(length), scanned),
         Walk::Moved => Turn::Moved { scanned },
     }
 }
@@ -97,7 +91,6 @@ fn make_room(shared: &Shared, seat: &mut Seat, need: u32, scanned: bool) -> bool
         return scanned;
     }
     scan(shared, seat);
-    seat.law();
     true
 }
 
@@ -119,7 +112,6 @@ fn install_pair(shared: &Shared, seat: &mut Seat, pair: Pair, word: u64, scanned
     };
     clear_walk(shared, seat);
     release(shared, seat, Claim::Back);
-    seat.law();
     Turn::Ends(Insert::Done)
 }
 
@@ -131,7 +123,6 @@ fn answer_insert(shared: &Shared, seat: &mut Seat, pair: Pair, answer: Insert)
         → IsReady shared.now seat.new × IsInserted pair.key pair.val answer before seat.new }
 {
     clear_walk(shared, seat);
-    seat.law();
     let key = pair.key;
     let val = pair.val;
     answer_now(shared, seat, Call::Insert { key, val }, reply_of(answer));

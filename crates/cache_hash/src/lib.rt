@@ -5,6 +5,8 @@ mod answers;
 mod cells;
 mod finds;
 mod inserts;
+#[cfg(test)]
+mod tests;
 mod turns;
 
 pub use answers::Insert;

@@ -9,13 +9,11 @@ pub overflow_add-result : goal.overflow_add-result
 overflow_add-result c =
     let p = c.plan-plan.result in
     let below = bucket_below p.buckets (key_number c.args.key) (subst (λ (q : Plan). 0 < q.buckets) (sym c.plan-plan.ensures) c.requires.some) in
-    let registers = c.law.ensures.sound.plan.registers in
-    let buckets = c.law.ensures.sound.plan.buckets in
+    let registers = c.requires.plan.registers in
+    let buckets = c.requires.plan.buckets in
     omega (
       arith,
-      ap (λ (q : Plan). q.registers) c.requires.ours.plan,
       ap (λ (q : Plan). q.registers) c.plan-plan.ensures,
-      ap (λ (q : Plan). q.buckets) c.requires.ours.plan,
       ap (λ (q : Plan). q.buckets) c.plan-plan.ensures,
       c.bucket_index.ensures.index,
     )

@@ -15,15 +15,15 @@ clear_walk-requires c = let k = c.requires.past.1 in record { ours = of_finding 
 pub answer_now-requires : goal.answer_now-requires
 answer_now-requires c =
     let k = c.requires.past.1 in
-    let m = may_end c.clear_walk.new.seat k c.clear_walk.ensures.cleared c.law.ensures.sound in
+    let m = may_end c.clear_walk.new.seat k c.clear_walk.ensures.cleared c.clear_walk.ensures.law.sound in
     record { ours = of_may k.ready m; may = rw c.reply_of.ensures (may_find m) }
 
 pub returns : goal.returns
 returns c = record {
   ends = λ before k.
       let u : SeatData = c.clear_walk.new.seat in
-      let m = may_end u k c.clear_walk.ensures.cleared c.law.ensures.sound in
+      let m = may_end u k c.clear_walk.ensures.cleared c.clear_walk.ensures.law.sound in
       let stood : c.answer_now.new.seat ≡ stepped (stood_view (length u.view.seen) (Find c.args.key) (find_reply c.args.found) (cleared_view BACK u.view)) (unnoted BACK u) =
       c.answer_now.ensures.seat ∙ ap (λ (r : Reply). stepped (stood_view (length u.view.seen) (Find c.args.key) r (cleared_view BACK u.view)) (unnoted BACK u)) c.reply_of.ensures in
-      (find_ready m c.args.shared.now c.answer_now.new.seat k.ready stood, found_now m c.answer_now.new.seat stood c.answer_now.ensures.law);
+      (find_ready m c.args.shared.now c.answer_now.new.seat k.ready stood c.answer_now.ensures.law, found_now m c.answer_now.new.seat stood c.answer_now.ensures.law);
 }

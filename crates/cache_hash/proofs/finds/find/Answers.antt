@@ -1,10 +1,15 @@
+use Rattle.std.proofs.Common.{subst}
 use Rattle.cache_hash.proofs.Finding.{back_there, begins, claimed_again, claimed_first, fewer, finds_none, finds_value, inside}
 use Rattle.cache_hash.proofs.Finding.{knows, loses, lost_finding, of_finding}
+use Rattle.step_rules.specs.Layout.{IsPlan}
 use Rattle.cache_hash.proofs.finds.find.Goals as goal
+
+pub bucket_cell-cell-requires-clause-plan : goal.bucket_cell-cell-requires-clause-plan
+bucket_cell-cell-requires-clause-plan c = subst IsPlan c.requires.ready.ours.plan c.requires.ready.law.sound.plan
 
 pub turns-init : goal.turns-init
 turns-init c = claimed_first c.args.shared.now c.args.key c.bucket_cell-cell.result c.claim_node.result c.args.seat.now c.claim_node.new.seat
-    (begins c.args.key c.bucket_cell-cell.result c.requires.ready c.law.ensures c.requires.some c.bucket_cell-cell.ensures.cell) c.claim_node.ensures.claimed
+    (begins c.args.key c.bucket_cell-cell.result c.requires.ready c.requires.some c.bucket_cell-cell.ensures.cell) c.claim_node.ensures.claimed
 
 pub walk-requires-clause-ours : goal.walk-requires-clause-ours
 walk-requires-clause-ours c = of_finding c.requires.ready c.turns.invariant.finding

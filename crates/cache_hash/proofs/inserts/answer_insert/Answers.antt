@@ -14,14 +14,15 @@ clear_walk-requires c = record { ours = going_of c.requires.past.1.going }
 
 pub answer_now-requires : goal.answer_now-requires
 answer_now-requires c =
-    let k = knows_cleared c.requires.past.1 c.clear_walk.ensures.cleared c.law.ensures in
+    let k = knows_cleared c.requires.past.1 c.clear_walk.ensures.cleared c.clear_walk.ensures.law in
     record { ours = going_of k.knows.going; may = rw c.reply_of.ensures (may_tell k) }
 
 pub returns : goal.returns
 returns c = record {
   ends = λ before k.
-      let r = knows_cleared k c.clear_walk.ensures.cleared c.law.ensures in
+      let r = knows_cleared k c.clear_walk.ensures.cleared c.clear_walk.ensures.law in
       let u : SeatData = c.clear_walk.new.seat in
       told r (c.answer_now.ensures.seat
-      ∙ ap (λ (reply : Reply). stepped (stood_view (length u.view.seen) (Insert c.args.pair.key c.args.pair.val) reply (cleared_view BACK u.view)) (unnoted BACK u)) c.reply_of.ensures) c.answer_now.ensures.law;
+      ∙ ap (λ (reply : Reply). stepped (stood_view (length u.view.seen) (Insert c.args.pair.key c.args.pair.val) reply (cleared_view BACK u.view)) (unnoted BACK u)) c.reply_of.ensures)
+      c.answer_now.ensures.law;
 }

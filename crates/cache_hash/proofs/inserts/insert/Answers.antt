@@ -1,11 +1,17 @@
-use Rattle.std.proofs.Common.{rules}
+use Rattle.std.proofs.Common.{rules, subst}
 use Rattle.cache_hash.proofs.Progress.{going_of}
 use Rattle.cache_hash.proofs.Turning.{begins_insert, first_turn, next_turn, turn_smaller}
+use Rattle.step_rules.specs.Layout.{IsPlan}
 use Rattle.cache_hash.proofs.inserts.insert.Goals as goal
+
+pub bucket_cell-cell-requires-clause-plan : goal.bucket_cell-cell-requires-clause-plan
+bucket_cell-cell-requires-clause-plan c = subst IsPlan c.requires.ready.ours.plan c.requires.ready.law.sound.plan
 
 pub turns-init : goal.turns-init
 turns-init c = first_turn
-    (begins_insert c.bucket_cell-cell.result c.requires.ready c.law.ensures c.requires.some c.requires.left ((search rules, search rules), record { long = search rules; below = λ j. search rules }) c.bucket_cell-cell.ensures.cell) c.claim_node-word.ensures.claimed
+    (begins_insert c.bucket_cell-cell.result c.requires.ready c.requires.some c.requires.left
+    ((search rules, search rules), record { long = search rules; below = λ j. search rules }) c.bucket_cell-cell.ensures.cell)
+    c.claim_node-word.ensures.claimed
 
 pub returns-in-Ends-clause-ready : goal.returns-in-Ends-clause-ready
 returns-in-Ends-clause-ready c = (c.in-Ends.ensures.turned c.args.seat.now c.turns.invariant).0

@@ -16,5 +16,5 @@ pub returns : goal.returns
 returns c = record {
   turned = λ before m.
       let h = has_front m c.in-Ready.ensures.copied c.in-Ready.ensures.law in
-      inserted (own_front h) (own_installed before m.going.begins.cell_is c.in-Installed.ensures.installs) c.clear_walk.ensures.cleared c.release.ensures.released c.law.ensures;
+      inserted (own_front h) (own_installed before m.going.begins.cell_is c.in-Installed.ensures.installs) c.clear_walk.ensures.cleared c.release.ensures.released c.release.ensures.law;
 }

@@ -6,7 +6,10 @@ answer_insert-requires c = record { past = (c.requires.past.0, turn_found c.requ
 
 pub put_in-requires : goal.put_in-requires
 put_in-requires c = record {
-  past = (c.requires.past.0, turn_end c.requires.past.1 c.in-End.length c.need_beside.result c.walk.new.seat c.law.ensures c.in-End.ensures.walked c.need_beside.ensures.none c.need_beside.ensures.some);
+  past = (
+    c.requires.past.0,
+    turn_end c.requires.past.1 c.in-End.length c.need_beside.result c.walk.new.seat c.in-End.ensures.law c.in-End.ensures.walked c.need_beside.ensures.none c.need_beside.ensures.some,
+  );
 }
 
 pub returns-in-Found : goal.returns-in-Found
@@ -17,7 +20,7 @@ returns-in-End c = record {
   turned = λ before t. ends_from c.args.shared.now c.args.pair.key c.args.pair.val c.args.pair.cell c.put_in.result before c.args.seat.now c.walk.new.seat c.put_in.new.seat
       (end_seen t c.in-End.length c.walk.new.seat c.in-End.ensures.walked)
       (c.put_in.ensures.turned before
-      (turn_end t c.in-End.length c.need_beside.result c.walk.new.seat c.law.ensures c.in-End.ensures.walked c.need_beside.ensures.none c.need_beside.ensures.some));
+      (turn_end t c.in-End.length c.need_beside.result c.walk.new.seat c.in-End.ensures.law c.in-End.ensures.walked c.need_beside.ensures.none c.need_beside.ensures.some));
 }
 
 pub returns-in-Moved : goal.returns-in-Moved
