@@ -28,11 +28,16 @@ def compile_plain(folder: str) -> str:
     return program
 
 
-def speed_of(program: str, words: list[str]) -> float:
-    """Million calls a second. A line with other calls than were asked ends the script."""
+def told_by(program: str, words: list[str]) -> tuple[str, dict]:
+    """The line of a timed run, and what stands in it behind each word."""
     line = subprocess.run([program, "time", *words], check=True, capture_output=True, text=True).stdout
     told = line.split()
-    found = dict(zip(told[::2], told[1::2]))
+    return line, dict(zip(told[::2], told[1::2]))
+
+
+def speed_of(program: str, words: list[str]) -> float:
+    """Million calls a second. A line with other calls than were asked ends the script."""
+    line, found = told_by(program, words)
     if int(found["calls"]) != int(words[0]) * int(words[2]) or found["done"] != found["calls"]:
         raise SystemExit(f"{program} {' '.join(words)}: {line}")
     return int(found["calls"]) / max(1, int(found["microseconds"]))

@@ -1,3 +1,1 @@
-pub mod Coming
-pub mod Runs
-pub mod Seats
+mod Loads

@@ -1,10 +1,11 @@
 -- The calls of a thread: what each is, its register, and the record that it brings.
-use Rattle.std.specs.Prelude.{◌≡◌, ◌+◌, ◌*◌, ◌/◌, ◌%◌, ◌==◌, ℕ, List, [], ◌∷◌, length, slice_index, if◌then◌else◌}
+use Rattle.std.specs.Prelude.{◌/◌, ◌%◌, ◌==◌, ℕ, if◌then◌else◌}
 use Rattle.register_speed.specs.declared.asked.Asked.{Asked}
 use Rattle.register_speed.specs.declared.asked.Kind.{Kind}
 use Rattle.register_speed.specs.declared.asked.Kind.TheVariants.{Load, Store, Mix}
 use Rattle.register_speed.specs.declared.turns.Step.{Step}
 use Rattle.register_speed.specs.declared.turns.Step.TheVariants.{Load as LoadStep, Store as StoreStep, Swap as SwapStep}
+use Rattle.speed_runs.specs.Streams.{drawn}
 
 -- what call i is: in a mix they are loads and compare-and-swaps in turn
 abbrev pub step_of : Kind → ℕ → Step
@@ -17,16 +18,6 @@ abbrev pub draw_of : Kind → ℕ → ℕ
 draw_of Mix i = i / 2
 draw_of _ i = i
 
--- the number that a thread draws: from a stream, which goes round, each thread has its own part; else it is the sum of the two
-abbrev pub drawn : List ℕ → ℕ → ℕ → ℕ → ℕ
-drawn [] calls thread draw = thread + draw
-drawn (n ∷ later) calls thread draw = slice_index (n ∷ later) ((thread * calls + draw) % length (n ∷ later))
-
 -- the register of a thread's call i
 abbrev pub register_of : Asked → ℕ → ℕ → ℕ
 register_of asked thread i = drawn asked.numbers.items asked.calls thread (draw_of asked.kind i) % asked.plan.registers
-
--- the record names the call that brings it
-pub record IsNew (thread i : ℕ) (new : List ℕ) : Type 0 where
-  pub call : slice_index new 0 ≡ i + 1
-  pub caller : slice_index new 1 ≡ thread

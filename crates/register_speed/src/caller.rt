@@ -1,70 +1,91 @@
 //! What one thread does.
 ghost use Rattle.std.specs.Prelude.{◌≡◌, ◌+◌, ◌<◌};
 ghost use Rattle.big_atomic.specs.Ready.{IsReady};
-ghost use Rattle.big_atomic.specs.Seats.{IsUnused};
-ghost use Rattle.register_speed.specs.Counting.{Adds, Becomes, HasCome};
+ghost use Rattle.register_speed.specs.Counting.{HasLoaded, IsNext, Leaves, is_made};
+ghost use Rattle.speed_runs.specs.Runs.{Adds, HasCome, Stays};
+ghost use Rattle.step_rules.specs.Views.{number};
 
 use crate::asked::Asked;
 use crate::turns::{Step, record_of, register_of, step_of};
-use big_atomic::{Rec, Seat, Shared, Stored, Swap, WIDTH, compare_and_swap, load, store};
+use big_atomic::{Plan, Rec, Seat, Shared, Stored, Swap, WIDTH, compare_and_swap, load, store};
+use speed_runs::{Ran, Work};
 
-/// A seat, and how many of its calls were made.
-#[derive(Drop)]
-pub(crate) struct Ran {
-    pub(crate) seat: Seat,
-    pub(crate) done: u64,
-}
-
-// A seat, the words of its last load, and how many of its calls were made.
+// A seat and how many of its calls were made, and the words of its last load.
 #[derive(Drop)]
 struct Caller {
-    seat: Seat,
+    ran: Ran,
     loaded: Rec,
-    done: u64,
 }
 
-/// Makes all calls of one seat.
-pub(crate) fn make_calls(shared: &Shared, seat: Seat, asked: &Asked) -> Ran
-    requires unused { IsUnused shared.now seat }
+impl Work for Asked {
+    ghost plan = { λ asked. asked.plan };
+
+    ghost filling = { λ asked. 0 };
+
+    ghost calls = { λ asked. asked.calls };
+
+    ghost is_turn = { IsNext };
+
+    ghost is_made = { is_made };
+
+    fn plan(&self) -> Plan {
+        self.plan
+    }
+
+    fn filling(&self) -> u32 {
+        0
+    }
+
+    fn calls(&self) -> u32 {
+        self.calls
+    }
+
+    fn fill(&self, shared: &Shared, ran: Ran) -> Ran {
+        ran
+    }
+
+    fn make_calls(&self, shared: &Shared, ran: Ran) -> Ran {
+        make_calls(shared, ran, self)
+    }
+}
+
+// Makes all calls of one seat.
+fn make_calls(shared: &Shared, ran: Ran, asked: &Asked) -> Ran
     requires plan { shared.now.plan ≡ asked.now.plan }
-    ensures { Becomes shared.now asked.now seat result }
+    requires come { HasCome (IsNext asked.now) is_made shared.now 0 ran.seat ran.done }
+    ensures come { HasCome (IsNext asked.now) is_made shared.now asked.now.calls result.seat result.done }
+    ensures stays { Stays ran.seat result.seat }
 {
-    let thread = seat.number();
     let mut caller = Caller {
-        seat,
+        ran,
         loaded: [0; WIDTH],
-        done: 0,
     };
     for i in 0..asked.calls {
-        make_next(shared, &mut caller, asked, thread, i);
+        make_next(shared, &mut caller, asked, i);
     }
-    let Caller { seat, done, .. } = caller;
-    seat.law();
-    Ran { seat, done }
+    let Caller { ran, .. } = caller;
+    ran
 }
 
 // Makes call i.
-fn make_next(shared: &Shared, caller: &mut Caller, asked: &Asked, thread: u32, i: u32)
-    requires ready { IsReady shared.now caller.old.seat }
+fn make_next(shared: &Shared, caller: &mut Caller, asked: &Asked, i: u32)
     requires plan { shared.now.plan ≡ asked.now.plan }
-    requires come { HasCome asked.now thread i caller.old.seat caller.old.loaded caller.old.done }
+    requires come { HasLoaded asked.now shared.now i caller.old.ran.seat caller.old.loaded caller.old.ran.done }
     requires more { i < asked.now.calls }
-    ensures ready { IsReady shared.now caller.new.seat }
-    ensures come { HasCome asked.now thread (i + 1) caller.new.seat caller.new.loaded caller.new.done }
-    ensures first { caller.new.seat.first ≡ caller.old.seat.first }
+    ensures come { HasLoaded asked.now shared.now (i + 1) caller.new.ran.seat caller.new.loaded caller.new.ran.done }
+    ensures stays { Stays caller.old.ran.seat caller.new.ran.seat }
 {
-    if make_call(shared, &mut caller.seat, &mut caller.loaded, asked, i) {
-        caller.done = caller.done.wrapping_add(1);
+    if make_call(shared, &mut caller.ran.seat, &mut caller.loaded, asked, i) {
+        caller.ran.done = caller.ran.done.wrapping_add(1);
     }
 }
 
 // Makes call i, and answers whether it was made: nothing was where no node is free for it.
 fn make_call(shared: &Shared, seat: &mut Seat, loaded: &mut Rec, asked: &Asked, i: u32) -> bool
-    requires ready { IsReady shared.now seat.old }
     requires plan { shared.now.plan ≡ asked.now.plan }
+    requires ready { IsReady shared.now seat.old }
     requires left { 0 < seat.old.view.changes }
-    ensures ready { IsReady shared.now seat.new }
-    ensures adds { Adds asked.now i loaded.old loaded.new result seat.old seat.new }
+    ensures adds { Adds (Leaves asked.now (number seat.old.view) i loaded.old loaded.new) is_made shared.now result seat.old seat.new }
 {
     let thread = seat.number();
     let reg = register_of(asked, thread, i);

@@ -1,9 +1,11 @@
 //! The calls of a thread: what each is, its register, and the record that it brings.
 ghost use Rattle.std.specs.Prelude.{◌≡◌, ◌<◌};
-ghost use Rattle.register_speed.specs.Turns.{IsNew, drawn, draw_of, register_of, step_of};
+ghost use Rattle.register_speed.specs.Turns.{draw_of, register_of, step_of};
+ghost use Rattle.speed_runs.specs.Runs.{IsNew};
 
 use crate::asked::{Asked, Kind};
 use big_atomic::{Rec, WIDTH};
+use speed_runs::draw;
 
 /// What a call is.
 #[derive(Clone, Copy, Drop, PartialEq, Eq)]
@@ -30,7 +32,7 @@ pub(crate) fn register_of(asked: &Asked, thread: u32, i: u32) -> u32
     ensures register { result ≡ register_of asked.now thread i }
     ensures there { result < asked.now.plan.registers }
 {
-    let number = drawn(asked, thread, draw_of(asked.kind, i));
+    let number = draw(&asked.numbers, asked.calls, thread, draw_of(asked.kind, i));
     (number % u64::from(asked.plan.registers)) as u32
 }
 
@@ -42,18 +44,6 @@ fn draw_of(kind: Kind, i: u32) -> u32
         Kind::Mix => i / 2,
         _ => i,
     }
-}
-
-// The number that a thread draws.
-fn drawn(asked: &Asked, thread: u32, draw: u32) -> u64
-    ensures { result ≡ drawn asked.now.numbers.items asked.now.calls thread draw }
-{
-    let count = asked.numbers.len() as u64;
-    if count == 0 {
-        return u64::from(thread) + u64::from(draw);
-    }
-    let place = u64::from(thread) * u64::from(asked.calls) + u64::from(draw);
-    u64::from(asked.numbers[(place % count) as usize])
 }
 
 /// The record that a thread's call i brings. No other call brings it.

@@ -1,0 +1,4 @@
+pub mod Coming
+mod Jobs
+pub mod Ends
+pub mod Seats

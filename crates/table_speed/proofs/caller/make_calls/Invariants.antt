@@ -1,0 +1,6 @@
+use Rattle.speed_runs.specs.Runs.{HasCome, Stays}
+use Rattle.table_speed.specs.Turns.{IsNext, is_made}
+use Rattle.table_speed.proofs.caller.make_calls.Given as goal
+
+abbrev pub invariant-loop-i : goal.invariant-loop-i
+invariant-loop-i l = HasCome (IsNext l.asked) is_made l.shared l.i l.ran.seat l.ran.done × Stays l.fn.ran.seat l.ran.seat

@@ -1,0 +1,93 @@
+//! What one thread does.
+ghost use Rattle.std.specs.Prelude.{◌≡◌, ◌+◌, ◌<◌, ◌≤◌};
+ghost use Rattle.big_atomic.specs.Ready.{IsReady};
+ghost use Rattle.speed_runs.specs.Runs.{Adds, HasCome, Stays};
+ghost use Rattle.step_rules.specs.Views.{number};
+ghost use Rattle.table_speed.specs.Turns.{IsNext, IsTurn, is_made};
+
+use crate::asked::Asked;
+use crate::turns::{Step, index_of, key_of, step_of, value_of};
+use cache_hash::{Insert, Plan, Seat, Shared, find, insert};
+use speed_runs::{Ran, Work};
+
+impl Work for Asked {
+    ghost plan = { λ asked. asked.plan };
+
+    ghost filling = { λ asked. asked.filling };
+
+    ghost calls = { λ asked. asked.calls };
+
+    ghost is_turn = { IsNext };
+
+    ghost is_made = { is_made };
+
+    fn plan(&self) -> Plan {
+        self.plan
+    }
+
+    fn filling(&self) -> u32 {
+        self.filling
+    }
+
+    fn calls(&self) -> u32 {
+        self.calls
+    }
+
+    fn fill(&self, shared: &Shared, ran: Ran) -> Ran {
+        make_calls(shared, ran, self, 0, self.filling)
+    }
+
+    fn make_calls(&self, shared: &Shared, ran: Ran) -> Ran {
+        make_calls(shared, ran, self, self.filling, self.filling + self.calls)
+    }
+}
+
+// Makes the calls of one seat from one number up to another.
+fn make_calls(shared: &Shared, ran: Ran, asked: &Asked, from: u32, to: u32) -> Ran
+    requires plan { shared.now.plan ≡ asked.now.plan }
+    requires come { HasCome (IsNext asked.now) is_made shared.now from ran.seat ran.done }
+    requires order { from ≤ to }
+    requires within { to ≤ asked.now.filling + asked.now.calls }
+    ensures come { HasCome (IsNext asked.now) is_made shared.now to result.seat result.done }
+    ensures stays { Stays ran.seat result.seat }
+{
+    let mut ran = ran;
+    for i in from..to {
+        make_next(shared, &mut ran, asked, i);
+    }
+    ran
+}
+
+// Makes call i.
+fn make_next(shared: &Shared, ran: &mut Ran, asked: &Asked, i: u32)
+    requires plan { shared.now.plan ≡ asked.now.plan }
+    requires come { HasCome (IsNext asked.now) is_made shared.now i ran.old.seat ran.old.done }
+    requires more { i < asked.now.filling + asked.now.calls }
+    ensures come { HasCome (IsNext asked.now) is_made shared.now (i + 1) ran.new.seat ran.new.done }
+    ensures stays { Stays ran.old.seat ran.new.seat }
+{
+    if make_call(shared, &mut ran.seat, asked, i) {
+        ran.done = ran.done.wrapping_add(1);
+    }
+}
+
+// Makes call i, and answers whether it was made: nothing was where too few nodes are free for it.
+fn make_call(shared: &Shared, seat: &mut Seat, asked: &Asked, i: u32) -> bool
+    requires plan { shared.now.plan ≡ asked.now.plan }
+    requires ready { IsReady shared.now seat.old }
+    requires left { 0 < seat.old.view.changes }
+    ensures adds { Adds (IsTurn asked.now (number seat.old.view) i) is_made shared.now result seat.old seat.new }
+{
+    let thread = seat.number();
+    let key = key_of(index_of(asked, thread, i));
+    match step_of(asked, i) {
+        Step::Find => {
+            find(shared, seat, key);
+            true
+        }
+        Step::Insert => match insert(shared, seat, key, value_of(thread, i)) {
+            Insert::Done | Insert::Present(_) => true,
+            Insert::Full { .. } => false,
+        },
+    }
+}
