@@ -22,9 +22,9 @@ use Rattle.seat_history.specs.declared.call.Call.TheVariants.{Load, Store, Swap,
 use Rattle.seat_history.specs.declared.entry.Entry.{Entry}
 use Rattle.seat_history.specs.declared.reply.Reply.{Reply}
 use Rattle.seat_history.specs.declared.reply.Reply.TheVariants.{Full}
-use Rattle.step_rules.proofs.Lawfuls.{above_end}
-use Rattle.step_rules.proofs.Records.{held_next}
-use Rattle.step_rules.proofs.Trails.{goes_on_same, trail_step}
+use Rattle.step_rules.proofs.Line.Lawfuls.{above_end}
+use Rattle.step_rules.proofs.Line.Records.{held_next}
+use Rattle.step_rules.proofs.Line.Trails.{goes_on_same, trail_step}
 use Rattle.step_rules.specs.Claims.{BACK, ClaimsSound, HOLD, IsClaim, OWN, On, Tells, WALK}
 use Rattle.step_rules.specs.History.{GoesOn, IsThere, cell_of, key_cell}
 use Rattle.step_rules.specs.Kinds.Standing.{first_look}

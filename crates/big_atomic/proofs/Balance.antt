@@ -5,7 +5,7 @@ use Rattle.big_atomic.specs.Calls.{Answered, NodesStay}
 use Rattle.seat_history.specs.declared.call.Call.{Call}
 use Rattle.seat_history.specs.declared.entry.Entry.{Entry}
 use Rattle.seat_history.specs.declared.reply.Reply.{Reply}
-use Rattle.step_rules.proofs.Stocks.{stock_more}
+use Rattle.step_rules.proofs.Line.Stocks.{stock_more}
 use Rattle.step_rules.specs.History.{GoesOn}
 use Rattle.step_rules.specs.Records.{cost_at, cost_of, edit_of, found_at, gain_at, gain_of}
 use Rattle.step_rules.specs.SeatData.{IsSeat, SeatData}

@@ -21,13 +21,13 @@ use Rattle.node_pool.specs.Pool.{IsRead, load_steps}
 use Rattle.seat_history.specs.History.{state_at}
 use Rattle.seat_history.specs.declared.entry.Entry.{Entry}
 use Rattle.seat_history.specs.declared.words.TheConstants.{WIDTH}
-use Rattle.step_rules.proofs.Advance.{none_on_parts}
-use Rattle.step_rules.proofs.Contents.{wide_register}
-use Rattle.step_rules.proofs.Notes.{only_stepped, only_stepped_then}
-use Rattle.step_rules.proofs.Places.{at_there}
-use Rattle.step_rules.proofs.Registers.{claim_record}
-use Rattle.step_rules.proofs.Sizes.{nodes_low}
-use Rattle.step_rules.proofs.Trails.{longer_seen}
+use Rattle.step_rules.proofs.Rely.Advance.{none_on_parts}
+use Rattle.step_rules.proofs.World.Contents.{wide_register}
+use Rattle.step_rules.proofs.Ties.Notes.{only_stepped, only_stepped_then}
+use Rattle.step_rules.proofs.Numbers.Places.{at_there}
+use Rattle.step_rules.proofs.World.Registers.{claim_record}
+use Rattle.step_rules.proofs.World.Sizes.{nodes_low}
+use Rattle.step_rules.proofs.Line.Trails.{longer_seen}
 use Rattle.step_rules.specs.Claims.{BACK, On, Tells}
 use Rattle.step_rules.specs.History.{GoesOn, NoneOn}
 use Rattle.step_rules.specs.Kinds.Backup.{Looks}

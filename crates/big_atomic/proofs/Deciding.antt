@@ -19,8 +19,8 @@ use Rattle.seat_history.specs.declared.entry.Entry.{Entry}
 use Rattle.seat_history.specs.declared.reply.Reply.{Reply}
 use Rattle.seat_history.specs.declared.reply.Reply.TheVariants.{Full}
 use Rattle.seat_history.specs.declared.words.TheConstants.{WIDTH}
-use Rattle.step_rules.proofs.Notes.{only_stepped, only_stepped_then}
-use Rattle.step_rules.proofs.Places.{at_there}
+use Rattle.step_rules.proofs.Ties.Notes.{only_stepped, only_stepped_then}
+use Rattle.step_rules.proofs.Numbers.Places.{at_there}
 use Rattle.step_rules.specs.Claims.{BACK, HOLD, OWN, On, WALK}
 use Rattle.step_rules.specs.History.{IsThere, cell_of}
 use Rattle.step_rules.specs.Kinds.Standing.{first_look}

@@ -7,7 +7,7 @@ use Rattle.big_atomic.specs.Calling.{Goes, HasFound, HasLost, HasWon}
 use Rattle.big_atomic.specs.Installing.{HasNear}
 use Rattle.big_atomic.specs.Turns.{lost_steps}
 use Rattle.seat_history.specs.declared.call.Call.{Call}
-use Rattle.step_rules.proofs.Trails.{longer_seen}
+use Rattle.step_rules.proofs.Line.Trails.{longer_seen}
 use Rattle.step_rules.specs.Claims.{BACK, On}
 use Rattle.step_rules.specs.History.{GoesOn, NoneOn}
 use Rattle.step_rules.specs.Kinds.Backup.{MayExchange}

@@ -10,9 +10,9 @@ use Rattle.big_atomic.proofs.Paid.{AreStill, changes-append, last_look-append, l
 use Rattle.big_atomic.specs.Calling.{Calling, Goes, HasFound, IsLooked, OnlySteps}
 use Rattle.big_atomic.specs.Turns.{TurnsArePaid, changes_on, is_lost, last_look, lost_steps}
 use Rattle.seat_history.specs.declared.entry.Entry.{Entry}
-use Rattle.step_rules.proofs.Advance.{goes_further}
-use Rattle.step_rules.proofs.Records.{held_longer}
-use Rattle.step_rules.proofs.Trails.{goes_on_same, longer_seen}
+use Rattle.step_rules.proofs.Rely.Advance.{goes_further}
+use Rattle.step_rules.proofs.Line.Records.{held_longer}
+use Rattle.step_rules.proofs.Line.Trails.{goes_on_same, longer_seen}
 use Rattle.step_rules.specs.Claims.{HOLD}
 use Rattle.step_rules.specs.History.{GoesOn, NoneOn}
 use Rattle.step_rules.specs.Kinds.Standing.{first_look, is_look}

@@ -20,8 +20,8 @@ use Rattle.node_pool.specs.Pool.{IsAllPutBack}
 use Rattle.seat_history.specs.Contents.{Contents}
 use Rattle.seat_history.specs.Step.{held_after}
 use Rattle.seat_history.specs.declared.call.Call.{Call}
-use Rattle.step_rules.proofs.Chains.{head_has}
-use Rattle.step_rules.proofs.Fronts.{followed_link, length-followed, need_some}
+use Rattle.step_rules.proofs.World.Chains.{head_has}
+use Rattle.step_rules.proofs.Order.Fronts.{followed_link, length-followed, need_some}
 use Rattle.step_rules.specs.Bags.{times}
 use Rattle.step_rules.specs.Claims.{BACK, HOLD, OWN, On, WALK}
 use Rattle.step_rules.specs.History.{cell_of}

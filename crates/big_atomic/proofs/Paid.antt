@@ -9,8 +9,8 @@ use mathlib.Core.Option.{some}
 use lib.ListN.{get_elem?}
 use Rattle.big_atomic.specs.Turns.{IsPaid, TurnsArePaid, changes_on, exchanges, is_exchange, is_lost, is_lost_by, is_scan_load, last_look, lost_steps, scan_loads}
 use Rattle.seat_history.specs.declared.entry.Entry.{Entry}
-use Rattle.step_rules.proofs.Places.{at_behind}
-use Rattle.step_rules.proofs.Sets.{has_first}
+use Rattle.step_rules.proofs.Numbers.Places.{at_behind}
+use Rattle.step_rules.proofs.Numbers.Sets.{has_first}
 use Rattle.step_rules.specs.History.{GoesOn, NoneOn, cell_of, entries_by}
 use Rattle.step_rules.specs.Kinds.Standing.{first_look, is_look}
 use Rattle.step_rules.specs.Lawful.{entry_of, made_by}

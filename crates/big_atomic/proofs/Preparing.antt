@@ -10,7 +10,7 @@ use Rattle.hazard_claims.specs.declared.claims.Claim.TheVariants.{Own}
 use Rattle.node_pool.proofs.Taken.{has_added, taken_held}
 use Rattle.node_pool.specs.Pool.{IsFilled, IsTaken, store_steps}
 use Rattle.seat_history.specs.declared.words.TheConstants.{WIDTH}
-use Rattle.step_rules.proofs.Tied.{own_held}
+use Rattle.step_rules.proofs.Ties.Tied.{own_held}
 use Rattle.step_rules.specs.Bags.{IsWithout}
 use Rattle.step_rules.specs.Claims.{HOLD, OWN, On}
 use Rattle.step_rules.specs.SeatData.{IsSeat, SeatData}

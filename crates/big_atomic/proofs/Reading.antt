@@ -20,11 +20,11 @@ use Rattle.seat_history.specs.declared.call.Call.TheVariants.{Load, Hold, Look, 
 use Rattle.seat_history.specs.declared.reply.Reply.{Reply}
 use Rattle.seat_history.specs.declared.reply.Reply.TheVariants.{Words, Done, Full}
 use Rattle.seat_history.specs.declared.words.TheConstants.{WIDTH}
-use Rattle.step_rules.proofs.Lawfuls.{above_end}
-use Rattle.step_rules.proofs.Places.{at_there}
-use Rattle.step_rules.proofs.Registers.{claim_record}
-use Rattle.step_rules.proofs.Trails.{longer_seen}
-use Rattle.step_rules.proofs.Sizes.{nodes_low}
+use Rattle.step_rules.proofs.Line.Lawfuls.{above_end}
+use Rattle.step_rules.proofs.Numbers.Places.{at_there}
+use Rattle.step_rules.proofs.World.Registers.{claim_record}
+use Rattle.step_rules.proofs.Line.Trails.{longer_seen}
+use Rattle.step_rules.proofs.World.Sizes.{nodes_low}
 use Rattle.step_rules.specs.Claims.{BACK, HOLD, OWN, On, WALK}
 use Rattle.step_rules.specs.History.{GoesOn, IsThere, cell_of}
 use Rattle.step_rules.specs.Layout.{nodes}

@@ -20,7 +20,7 @@ use Rattle.seat_history.specs.Step.{is_same}
 use Rattle.seat_history.specs.declared.call.Call.TheVariants.{Store}
 use Rattle.seat_history.specs.declared.entry.Entry.{Entry}
 use Rattle.seat_history.specs.declared.reply.Reply.TheVariants.{Done}
-use Rattle.step_rules.proofs.Trails.{longer_seen}
+use Rattle.step_rules.proofs.Line.Trails.{longer_seen}
 use Rattle.step_rules.specs.Claims.{BACK, HOLD, OWN, On, WALK}
 use Rattle.step_rules.specs.SeatData.{IsOf, IsSeat, ObjectData, SeatData}
 use Rattle.step_rules.specs.Steps.{stepped}

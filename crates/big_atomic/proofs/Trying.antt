@@ -21,8 +21,8 @@ use Rattle.seat_history.specs.declared.entry.Entry.{Entry}
 use Rattle.seat_history.specs.declared.reply.Reply.{Reply}
 use Rattle.seat_history.specs.declared.reply.Reply.TheVariants.{Done, Full, Yes, No}
 use Rattle.seat_history.specs.declared.words.TheConstants.{WIDTH}
-use Rattle.step_rules.proofs.Places.{at_there}
-use Rattle.step_rules.proofs.Registers.{may_change}
+use Rattle.step_rules.proofs.Numbers.Places.{at_there}
+use Rattle.step_rules.proofs.World.Registers.{may_change}
 use Rattle.step_rules.specs.Claims.{BACK, HOLD, OWN, On, WALK}
 use Rattle.step_rules.specs.History.{IsWide, cell_of, IsThere}
 use Rattle.step_rules.specs.Kinds.Backup.{MayExchange}

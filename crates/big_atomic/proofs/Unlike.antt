@@ -15,7 +15,7 @@ use Rattle.seat_history.specs.Step.{contents_after, is_same}
 use Rattle.seat_history.specs.declared.call.Call.TheVariants.{Load, Store, Swap, Hold, Look, Release, Find, Insert, Replace, Remove}
 use Rattle.seat_history.specs.declared.call.Call.{Call}
 use Rattle.seat_history.specs.declared.entry.Entry.{Entry}
-use Rattle.step_rules.proofs.Places.{at_below}
+use Rattle.step_rules.proofs.Numbers.Places.{at_below}
 use Rattle.step_rules.specs.History.{IsHistory, NoneOn, cell_of, key_cell}
 use Rattle.step_rules.specs.declared.plan.Plan.{Plan}
 

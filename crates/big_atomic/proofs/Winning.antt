@@ -23,11 +23,11 @@ use Rattle.seat_history.specs.Step.{held_after, reply_to}
 use Rattle.seat_history.specs.declared.call.Call.{Call}
 use Rattle.seat_history.specs.declared.entry.Entry.{Entry}
 use Rattle.seat_history.specs.declared.reply.Reply.{Reply}
-use Rattle.step_rules.proofs.Advance.{goes_further}
-use Rattle.step_rules.proofs.Places.{at_there}
-use Rattle.step_rules.proofs.Records.{held_longer, held_next}
-use Rattle.step_rules.proofs.RecordsAt.{records_since}
-use Rattle.step_rules.proofs.Trails.{longer_seen}
+use Rattle.step_rules.proofs.Rely.Advance.{goes_further}
+use Rattle.step_rules.proofs.Numbers.Places.{at_there}
+use Rattle.step_rules.proofs.Line.Records.{held_longer, held_next}
+use Rattle.step_rules.proofs.Order.RecordsAt.{records_since}
+use Rattle.step_rules.proofs.Line.Trails.{longer_seen}
 use Rattle.step_rules.specs.Claims.{BACK, HOLD, On, OWN, WALK}
 use Rattle.step_rules.specs.History.{GoesOn, cell_of}
 use Rattle.step_rules.specs.Kinds.Standing.{first_look}

@@ -23,11 +23,11 @@ use Rattle.seat_history.specs.declared.call.Call.TheVariants.{Find}
 use Rattle.seat_history.specs.declared.entry.Entry.{Entry}
 use Rattle.seat_history.specs.declared.key.KeyWords.{KeyWords}
 use Rattle.seat_history.specs.declared.reply.Reply.TheVariants.{Absent, Full, Val}
-use Rattle.step_rules.proofs.BucketOf.{key_there}
-use Rattle.step_rules.proofs.Notes.{only_stepped_then}
-use Rattle.step_rules.proofs.RecordsAt.{records_since}
-use Rattle.step_rules.proofs.RecordsTell.{value_at}
-use Rattle.step_rules.proofs.Trails.{longer_seen}
+use Rattle.step_rules.proofs.Order.BucketOf.{key_there}
+use Rattle.step_rules.proofs.Ties.Notes.{only_stepped_then}
+use Rattle.step_rules.proofs.Order.RecordsAt.{records_since}
+use Rattle.step_rules.proofs.Order.RecordsTell.{value_at}
+use Rattle.step_rules.proofs.Line.Trails.{longer_seen}
 use Rattle.step_rules.specs.Claims.{BACK, HOLD, On, OWN, WALK}
 use Rattle.step_rules.specs.History.{key_cell}
 use Rattle.step_rules.specs.Layout.{cells}

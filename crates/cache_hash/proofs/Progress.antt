@@ -20,7 +20,7 @@ use Rattle.seat_history.specs.Key.{key_number}
 use Rattle.seat_history.specs.declared.call.Call.TheVariants.{Insert}
 use Rattle.seat_history.specs.declared.entry.Entry.{Entry}
 use Rattle.seat_history.specs.declared.key.KeyWords.{KeyWords}
-use Rattle.step_rules.proofs.Trails.{longer_seen}
+use Rattle.step_rules.proofs.Line.Trails.{longer_seen}
 use Rattle.step_rules.specs.Claims.{BACK, HOLD, OWN}
 use Rattle.step_rules.specs.History.{GoesOn, cell_of}
 use Rattle.step_rules.specs.Lawful.{held_by}

@@ -32,9 +32,9 @@ use Rattle.seat_history.specs.declared.call.Call.TheVariants.{Insert}
 use Rattle.seat_history.specs.declared.entry.Entry.{Entry}
 use Rattle.seat_history.specs.declared.key.KeyWords.{KeyWords}
 use Rattle.seat_history.specs.declared.reply.Reply.TheVariants.{Done as DoneReply, Present as PresentReply}
-use Rattle.step_rules.proofs.Notes.{drops_alone}
-use Rattle.step_rules.proofs.Places.{at_there}
-use Rattle.step_rules.proofs.Sets.{length-nodes_of}
+use Rattle.step_rules.proofs.Ties.Notes.{drops_alone}
+use Rattle.step_rules.proofs.Numbers.Places.{at_there}
+use Rattle.step_rules.proofs.Numbers.Sets.{length-nodes_of}
 use Rattle.step_rules.specs.Claims.{BACK, HOLD, On, OWN}
 use Rattle.step_rules.specs.Fronts.{front_of}
 use Rattle.step_rules.specs.History.{GoesOn, key_cell}

@@ -22,7 +22,7 @@ use Rattle.seat_history.specs.declared.entry.Entry.{Entry}
 use Rattle.seat_history.specs.declared.key.KeyWords.{KeyWords}
 use Rattle.seat_history.specs.declared.reply.Reply.{Reply}
 use Rattle.seat_history.specs.declared.reply.Reply.TheVariants.{Done as DoneReply, Present as PresentReply, Full as FullReply}
-use Rattle.step_rules.proofs.Trails.{goes_on_same}
+use Rattle.step_rules.proofs.Line.Trails.{goes_on_same}
 use Rattle.step_rules.specs.Claims.{BACK, HOLD, WALK}
 use Rattle.step_rules.specs.History.{GoesOn, key_cell}
 use Rattle.step_rules.specs.Lawful.{IsRight, is_full}

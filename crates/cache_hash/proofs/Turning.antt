@@ -20,7 +20,7 @@ use Rattle.chain_links.specs.declared.answers.Walk.TheVariants.{Found, End, Move
 use Rattle.seat_history.specs.Key.{key_number}
 use Rattle.seat_history.specs.declared.call.Call.TheVariants.{Insert}
 use Rattle.seat_history.specs.declared.key.KeyWords.{KeyWords}
-use Rattle.step_rules.proofs.Trails.{longer_seen}
+use Rattle.step_rules.proofs.Line.Trails.{longer_seen}
 use Rattle.step_rules.specs.Claims.{BACK, HOLD, On, OWN}
 use Rattle.step_rules.specs.History.{IsWide, key_cell}
 use Rattle.step_rules.specs.Order.{Needs}

@@ -13,8 +13,8 @@ use Rattle.hazard_claims.specs.declared.claims.Claim.TheVariants.{Walk}
 use Rattle.hazard_claims.specs.Scanning.{ClearsWalk}
 use Rattle.node_pool.specs.Pool.{IsRead, load_steps}
 use Rattle.seat_history.specs.declared.entry.Entry.{Entry}
-use Rattle.step_rules.proofs.Notes.{only_stepped, only_stepped_then}
-use Rattle.step_rules.proofs.Trails.{longer_seen}
+use Rattle.step_rules.proofs.Ties.Notes.{only_stepped, only_stepped_then}
+use Rattle.step_rules.proofs.Line.Trails.{longer_seen}
 use Rattle.step_rules.specs.Claims.{BACK, HOLD, OWN, WALK}
 use Rattle.step_rules.specs.History.{NoneOn}
 use Rattle.step_rules.specs.Kinds.Walking.{Walks}

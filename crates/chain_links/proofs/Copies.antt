@@ -10,13 +10,13 @@ use Rattle.chain_links.specs.Walking.{HasBack}
 use Rattle.node_pool.proofs.Taken.{has_added}
 use Rattle.node_pool.specs.Pool.{IsRead, load_steps}
 use Rattle.seat_history.specs.declared.words.TheConstants.{WIDTH}
-use Rattle.step_rules.proofs.Bags.{one_list}
-use Rattle.step_rules.proofs.Inserting.{PutsBefore, front_alone, front_before, insert_front}
-use Rattle.step_rules.proofs.Pages.{is_end, page_tells}
-use Rattle.step_rules.proofs.Pools.{own_wide}
-use Rattle.step_rules.proofs.Sets.{has_left}
-use Rattle.step_rules.proofs.Sizes.{nodes_low}
-use Rattle.step_rules.proofs.Tied.{moved_times, own_held, own_there}
+use Rattle.step_rules.proofs.Numbers.Bags.{one_list}
+use Rattle.step_rules.proofs.Order.Inserting.{PutsBefore, front_alone, front_before, insert_front}
+use Rattle.step_rules.proofs.Order.Pages.{is_end, page_tells}
+use Rattle.step_rules.proofs.Ties.Pools.{own_wide}
+use Rattle.step_rules.proofs.Numbers.Sets.{has_left}
+use Rattle.step_rules.proofs.World.Sizes.{nodes_low}
+use Rattle.step_rules.proofs.Ties.Tied.{moved_times, own_held, own_there}
 use Rattle.step_rules.specs.Bags.{times}
 use Rattle.step_rules.specs.Claims.{BACK, On}
 use Rattle.step_rules.specs.Fronts.{front_of}

@@ -9,7 +9,7 @@ use Rattle.hazard_claims.specs.Claiming.{IsAnnounced}
 use Rattle.hazard_claims.specs.declared.claims.Claim.TheVariants.{Walk}
 use Rattle.node_pool.specs.Pool.{IsAllPutBack, IsFilled, IsRead, IsTaken}
 use Rattle.step_rules.proofs.Keeps.Stores.{stored_nodes}
-use Rattle.step_rules.proofs.Tied.{moved_times}
+use Rattle.step_rules.proofs.Ties.Tied.{moved_times}
 use Rattle.step_rules.specs.Bags.{times}
 use Rattle.step_rules.specs.Claims.{BACK, WALK}
 use Rattle.step_rules.specs.Kinds.Walking.{Walks}

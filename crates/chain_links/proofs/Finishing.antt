@@ -16,11 +16,11 @@ use Rattle.chain_links.specs.Walking.{HasBack}
 use Rattle.node_pool.specs.Pool.{IsFilled}
 use Rattle.seat_history.specs.Contents.{zeros}
 use Rattle.seat_history.specs.declared.words.TheConstants.{WIDTH}
-use Rattle.step_rules.proofs.Fronting.{front_with, next_word, nodes_with, record_more}
-use Rattle.step_rules.proofs.Pages.{full_at, full_chain, linked_at, next_word_of}
-use Rattle.step_rules.proofs.Places.{take_to}
-use Rattle.step_rules.proofs.Pools.{held_own, own_wide}
-use Rattle.step_rules.proofs.Sizes.{nodes_low}
+use Rattle.step_rules.proofs.Order.Fronting.{front_with, next_word, nodes_with, record_more}
+use Rattle.step_rules.proofs.Order.Pages.{full_at, full_chain, linked_at, next_word_of}
+use Rattle.step_rules.proofs.Numbers.Places.{take_to}
+use Rattle.step_rules.proofs.Ties.Pools.{held_own, own_wide}
+use Rattle.step_rules.proofs.World.Sizes.{nodes_low}
 use Rattle.step_rules.specs.Bags.{times}
 use Rattle.step_rules.specs.Claims.{BACK, IsClaim, On}
 use Rattle.step_rules.specs.Fronts.{with_words}

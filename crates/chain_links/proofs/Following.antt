@@ -16,15 +16,15 @@ use Rattle.chain_links.specs.Walking.{HasBack}
 use Rattle.node_pool.proofs.Taken.{has_added}
 use Rattle.node_pool.specs.Pool.{IsFilled, IsRead, IsTaken}
 use Rattle.seat_history.specs.declared.words.TheConstants.{WIDTH}
-use Rattle.step_rules.proofs.Bags.{has_times, once_from_times, one_list, times_has, times_once}
-use Rattle.step_rules.proofs.Fronting.{record_more}
-use Rattle.step_rules.proofs.Owns.{words_at}
-use Rattle.step_rules.proofs.Pages.{full_at, full_chain, link_word, next_at, not_before}
-use Rattle.step_rules.proofs.Places.{take_to, there_at}
-use Rattle.step_rules.proofs.Pools.{held_own, words_not_stored}
-use Rattle.step_rules.proofs.Sets.{at_has, has_at, has_left, length-nodes_of, nodes_of-append, once_apart}
-use Rattle.step_rules.proofs.Sizes.{nodes_low}
-use Rattle.step_rules.proofs.Tied.{own_there}
+use Rattle.step_rules.proofs.Numbers.Bags.{has_times, once_from_times, one_list, times_has, times_once}
+use Rattle.step_rules.proofs.Order.Fronting.{record_more}
+use Rattle.step_rules.proofs.Ties.Owns.{words_at}
+use Rattle.step_rules.proofs.Order.Pages.{full_at, full_chain, link_word, next_at, not_before}
+use Rattle.step_rules.proofs.Numbers.Places.{take_to, there_at}
+use Rattle.step_rules.proofs.Ties.Pools.{held_own, words_not_stored}
+use Rattle.step_rules.proofs.Numbers.Sets.{at_has, has_at, has_left, length-nodes_of, nodes_of-append, once_apart}
+use Rattle.step_rules.proofs.World.Sizes.{nodes_low}
+use Rattle.step_rules.proofs.Ties.Tied.{own_there}
 use Rattle.step_rules.specs.Bags.{times}
 use Rattle.step_rules.specs.Claims.{BACK, IsClaim, OWN, On}
 use Rattle.step_rules.specs.Fronts.{with_words}

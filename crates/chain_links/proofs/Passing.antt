@@ -8,7 +8,7 @@ use Rattle.hazard_claims.specs.Claiming.{IsAnnounced, Rechecked}
 use Rattle.hazard_claims.specs.declared.answers.Recheck.TheVariants.{Same}
 use Rattle.hazard_claims.specs.declared.claims.Claim.TheVariants.{Walk}
 use Rattle.node_pool.specs.Pool.{IsRead}
-use Rattle.step_rules.proofs.Places.{at_there}
+use Rattle.step_rules.proofs.Numbers.Places.{at_there}
 use Rattle.step_rules.specs.Claims.{BACK, IsClaim, On, WALK}
 use Rattle.step_rules.specs.Kinds.Walking.{MayRecheck, Walks}
 use Rattle.step_rules.specs.Layout.{cells}

@@ -4,8 +4,8 @@ use Rattle.chain_links.proofs.Passing.{Kept}
 use Rattle.chain_links.specs.Copying.{IsPut, put_steps}
 use Rattle.node_pool.specs.Pool.{IsFilled, IsTaken, store_steps}
 use Rattle.step_rules.proofs.Keeps.Stores.{stored_nodes}
-use Rattle.step_rules.proofs.Pools.{words_not_stored}
-use Rattle.step_rules.proofs.Tied.{own_free_still}
+use Rattle.step_rules.proofs.Ties.Pools.{words_not_stored}
+use Rattle.step_rules.proofs.Ties.Tied.{own_free_still}
 use Rattle.step_rules.specs.Bags.{IsWithout}
 use Rattle.step_rules.specs.Claims.{BACK}
 use Rattle.step_rules.specs.SeatData.{IsSeat, SeatData}

@@ -9,9 +9,9 @@ use Rattle.chain_links.specs.declared.answers.Walk.TheVariants.{Found, End, Move
 use Rattle.node_pool.specs.Pool.{IsRead}
 use Rattle.seat_history.specs.Key.{key_number}
 use Rattle.seat_history.specs.declared.key.KeyWords.{KeyWords}
-use Rattle.step_rules.proofs.Owns.{words_at}
-use Rattle.step_rules.proofs.Sets.{at_has, at_most_below, has_at, length-nodes_of}
-use Rattle.step_rules.proofs.Sizes.{nodes_low}
+use Rattle.step_rules.proofs.Ties.Owns.{words_at}
+use Rattle.step_rules.proofs.Numbers.Sets.{at_has, at_most_below, has_at, length-nodes_of}
+use Rattle.step_rules.proofs.World.Sizes.{nodes_low}
 use Rattle.step_rules.specs.Claims.{BACK, IsClaim, On}
 use Rattle.step_rules.specs.Layout.{nodes}
 use Rattle.step_rules.specs.Records.{key_in, record_in}

@@ -8,7 +8,7 @@ use Rattle.std.proofs.lemmas.List.{append-nil, append_assoc, length-set, get_or-
 use Rattle.std.proofs.Math.Seq.{get_or-append_seam}
 use Rattle.hazard_claims.specs.Scanning.{ClearsWalk, IsScan, names}
 use Rattle.step_rules.proofs.Keeps.Scans.{has_filter, once_filter}
-use Rattle.step_rules.proofs.Sets.{all_there, at_most, has_first}
+use Rattle.step_rules.proofs.Numbers.Sets.{all_there, at_most, has_first}
 use Rattle.step_rules.specs.Claims.{WALK}
 use Rattle.step_rules.specs.Kinds.Claiming.{FindsOwn, MayScan}
 use Rattle.step_rules.specs.Layout.{claim_at}

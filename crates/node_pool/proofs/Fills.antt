@@ -5,9 +5,9 @@ use Rattle.std.proofs.Math.Seq.{take-length}
 use mathlib.Core.Option.{some}
 use lib.ListN.{get_elem?}
 use Rattle.step_rules.proofs.Keeps.Stores.{stored_nodes}
-use Rattle.step_rules.proofs.Owns.{words_at}
-use Rattle.step_rules.proofs.Pools.{held_own, own_wide, words_not_stored, words_stored}
-use Rattle.step_rules.proofs.Sets.{at_has}
+use Rattle.step_rules.proofs.Ties.Owns.{words_at}
+use Rattle.step_rules.proofs.Ties.Pools.{held_own, own_wide, words_not_stored, words_stored}
+use Rattle.step_rules.proofs.Numbers.Sets.{at_has}
 use Rattle.step_rules.specs.Claims.{On}
 use Rattle.step_rules.specs.Kinds.Node.{Reads}
 use Rattle.node_pool.specs.Pool.{IsFilled, IsRead, load_steps, store_steps}

@@ -3,7 +3,7 @@ use Rattle.std.proofs.Common.{◌≡◌, ◌∙◌, ℕ, ◌+◌, true, [], ◌�
 use Rattle.std.proofs.lemmas.List.{nil_from_length}
 use lib.ListN.{get_elem?}
 use Rattle.node_pool.specs.Pool.{IsAllPutBack, IsPutBack}
-use Rattle.step_rules.proofs.Bags.{times-append, was_there}
+use Rattle.step_rules.proofs.Numbers.Bags.{times-append, was_there}
 use Rattle.step_rules.specs.Bags.{times}
 use Rattle.step_rules.specs.Claims.{OWN}
 use Rattle.step_rules.specs.SeatData.{IsOf, NoneAnnounced, ObjectData, SeatData}

@@ -2,7 +2,7 @@
 use Rattle.std.proofs.Common.{◌≡◌, ℕ, true, false, eqb, eq-eqb, List, [], ◌∷◌, ◌++◌, refl, subst, sym}
 use Rattle.std.proofs.lemmas.Bool.{or_left}
 use Rattle.node_pool.specs.Pool.{IsTaken}
-use Rattle.step_rules.proofs.Sets.{has_right}
+use Rattle.step_rules.proofs.Numbers.Sets.{has_right}
 use Rattle.step_rules.specs.SeatData.{SeatData}
 use Rattle.step_rules.specs.World.{has}
 

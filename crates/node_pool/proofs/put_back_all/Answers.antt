@@ -1,6 +1,6 @@
 use Rattle.std.proofs.Common.{◌≡◌, arith, true}
 use Rattle.node_pool.proofs.PutBack.{none_claims, put_more}
-use Rattle.step_rules.proofs.Pools.{has_last}
+use Rattle.step_rules.proofs.Ties.Pools.{has_last}
 use Rattle.step_rules.specs.World.{has}
 use Rattle.node_pool.proofs.put_back_all.Goals as goal
 

@@ -1,5 +1,5 @@
 use Rattle.std.proofs.Common.{inl}
-use Rattle.step_rules.proofs.Pools.{free_not_held, has_last}
+use Rattle.step_rules.proofs.Ties.Pools.{free_not_held, has_last}
 use Rattle.node_pool.proofs.take.Goals as goal
 
 pub node_store-requires-clause-own : goal.node_store-requires-clause-own

@@ -25,16 +25,16 @@ use Rattle.step_rules.specs.declared.view.Claim.{Claim}
 use Rattle.step_rules.specs.declared.view.Counted.{Counted}
 use Rattle.step_rules.specs.declared.view.Kind.TheVariants.{ClaimStore, ClaimClear, Recheck}
 use Rattle.step_rules.specs.declared.view.View.{View}
-use Rattle.step_rules.proofs.Advance.{claim_found, stood_in, tells_inside}
-use Rattle.step_rules.proofs.Chains.{chained_linked}
-use Rattle.step_rules.proofs.Claimed.{MayBecome, silent_may, standing_may, turn, with_claim}
-use Rattle.step_rules.proofs.Frames.{backup_else, backup_is, claim_else, claim_here, is_set, node_low, one_cell, one_claim}
-use Rattle.step_rules.proofs.Fronts.{chained_once}
-use Rattle.step_rules.proofs.Moments.{Made, Moment, load_owed, moment, seat, store_owed, world}
-use Rattle.step_rules.proofs.Owns.{words_at}
-use Rattle.step_rules.proofs.Seeing.{CellNode, cell_node, seeing, sees, sees_moved, sees_seat, sees_told}
-use Rattle.step_rules.proofs.Sets.{at_has, has_first}
-use Rattle.step_rules.proofs.Trails.{goes_on_same, trail_step}
+use Rattle.step_rules.proofs.Rely.Advance.{claim_found, stood_in, tells_inside}
+use Rattle.step_rules.proofs.World.Chains.{chained_linked}
+use Rattle.step_rules.proofs.Rely.Claimed.{MayBecome, silent_may, standing_may, turn, with_claim}
+use Rattle.step_rules.proofs.World.Frames.{backup_else, backup_is, claim_else, claim_here, is_set, node_low, one_cell, one_claim}
+use Rattle.step_rules.proofs.Order.Fronts.{chained_once}
+use Rattle.step_rules.proofs.Rely.Moments.{Made, Moment, load_owed, moment, seat, store_owed, world}
+use Rattle.step_rules.proofs.Ties.Owns.{words_at}
+use Rattle.step_rules.proofs.Rely.Seeing.{CellNode, cell_node, seeing, sees, sees_moved, sees_seat, sees_told}
+use Rattle.step_rules.proofs.Numbers.Sets.{at_has, has_first}
+use Rattle.step_rules.proofs.Line.Trails.{goes_on_same, trail_step}
 
 -- the words of a claim of the seat's
 claim_low : (m : Moment) (c : ℕ) → c < CLAIMS → claim_at (number m.view) c < CLAIMS * m.view.plan.seats

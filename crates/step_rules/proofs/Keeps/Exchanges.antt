@@ -37,23 +37,23 @@ use Rattle.step_rules.specs.declared.view.Claim.{Claim}
 use Rattle.step_rules.specs.declared.view.Held.{Held}
 use Rattle.step_rules.specs.declared.view.Kind.TheVariants.{BackupExchange}
 use Rattle.step_rules.specs.declared.view.View.{View}
-use Rattle.step_rules.proofs.Advance.{goes_further}
-use Rattle.step_rules.proofs.Chains.{chained_class, chained_parts, head_has, linked_chained}
-use Rattle.step_rules.proofs.Edits.{chain_edit, edit_stock}
-use Rattle.step_rules.proofs.Exchanging.{exchange_cells, exchange_claims, exchange_leaves, exchange_nodes}
-use Rattle.step_rules.proofs.Frames.{backup_else, backup_here, backup_is, claim_else, is_set, node_low, one_cell, set_at_else}
-use Rattle.step_rules.proofs.Fronts.{chained_once, dropped_within, followed_link, followed_words, length-followed, length-without_all, need_some, once-without_all, without_all_at}
-use Rattle.step_rules.proofs.Lawfuls.{lawful_change}
-use Rattle.step_rules.proofs.Owns.{words_at}
-use Rattle.step_rules.proofs.Stocks.{stock_push}
-use Rattle.step_rules.proofs.Trails.{trail_stand, trail_step}
-use Rattle.step_rules.proofs.RecordsAt.{next_records}
-use Rattle.step_rules.proofs.RecordsTell.{EachThere, change_in, change_within}
-use Rattle.step_rules.proofs.Moments.{Made, Moment, advance, load_owed, moment, seat, store_owed, world}
-use Rattle.step_rules.proofs.Seeing.{lawful_seen, look_now, seeing, sees, sees_told, stock_seen}
-use Rattle.step_rules.proofs.Sets.{at_has, has_at, has-append, has_first, has_left, length-nodes_of, nodes_of-append, once-append, once_parts}
+use Rattle.step_rules.proofs.Rely.Advance.{goes_further}
+use Rattle.step_rules.proofs.World.Chains.{chained_class, chained_parts, head_has, linked_chained}
+use Rattle.step_rules.proofs.Order.Edits.{chain_edit, edit_stock}
+use Rattle.step_rules.proofs.World.Exchanging.{exchange_cells, exchange_claims, exchange_leaves, exchange_nodes}
+use Rattle.step_rules.proofs.World.Frames.{backup_else, backup_here, backup_is, claim_else, is_set, node_low, one_cell, set_at_else}
+use Rattle.step_rules.proofs.Order.Fronts.{chained_once, dropped_within, followed_link, followed_words, length-followed, length-without_all, need_some, once-without_all, without_all_at}
+use Rattle.step_rules.proofs.Line.Lawfuls.{lawful_change}
+use Rattle.step_rules.proofs.Ties.Owns.{words_at}
+use Rattle.step_rules.proofs.Line.Stocks.{stock_push}
+use Rattle.step_rules.proofs.Line.Trails.{trail_stand, trail_step}
+use Rattle.step_rules.proofs.Order.RecordsAt.{next_records}
+use Rattle.step_rules.proofs.Order.RecordsTell.{EachThere, change_in, change_within}
+use Rattle.step_rules.proofs.Rely.Moments.{Made, Moment, advance, load_owed, moment, seat, store_owed, world}
+use Rattle.step_rules.proofs.Rely.Seeing.{lawful_seen, look_now, seeing, sees, sees_told, stock_seen}
+use Rattle.step_rules.proofs.Numbers.Sets.{at_has, has_at, has-append, has_first, has_left, length-nodes_of, nodes_of-append, once-append, once_parts}
 use Rattle.seat_history.proofs.Histories.{state_at-append}
-use Rattle.step_rules.proofs.Places.{at_more, there_at}
+use Rattle.step_rules.proofs.Numbers.Places.{at_more, there_at}
 
 -- one entry more, which changes what it finds
 history_more : (p : Plan) (log : List Entry) (e : Entry) → IsHistory p log → IsEntry p (state_at log (length log)) e → IsHistory p (log ++ e ∷ [])

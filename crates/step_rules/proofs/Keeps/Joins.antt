@@ -23,16 +23,16 @@ use Rattle.step_rules.specs.World.{Class, Live, Once, Own, Retired, World, has, 
 use Rattle.step_rules.specs.declared.plan.Plan.{Plan}
 use Rattle.step_rules.specs.declared.view.Claim.{Claim}
 use Rattle.step_rules.specs.declared.view.View.{View}
-use Rattle.step_rules.proofs.Moments.{Moment, moment, total_set, world}
-use Rattle.step_rules.proofs.Claimed.{claims_sound_more}
-use Rattle.step_rules.proofs.Lawfuls.{lawful_join}
-use Rattle.step_rules.proofs.Sets.{at_has, has-append, has_left, nodes_of-append, once-append, first_number}
-use Rattle.step_rules.proofs.Silent.{Quiet, claims_quiet, no_claims, no_claims_quiet, no_claims_sound, unclaimed}
-use Rattle.step_rules.proofs.Stocks.{stock_join}
-use Rattle.step_rules.proofs.Seeing.{lawful_seen, stock_seen}
-use Rattle.step_rules.proofs.Trails.{no_trail, trail_more, trail_stand}
-use Rattle.step_rules.proofs.Handing.{Hands, handed_cells, handed_seat}
-use Rattle.step_rules.proofs.Places.{at_append}
+use Rattle.step_rules.proofs.Rely.Moments.{Moment, moment, total_set, world}
+use Rattle.step_rules.proofs.Rely.Claimed.{claims_sound_more}
+use Rattle.step_rules.proofs.Line.Lawfuls.{lawful_join}
+use Rattle.step_rules.proofs.Numbers.Sets.{at_has, has-append, has_left, nodes_of-append, once-append, first_number}
+use Rattle.step_rules.proofs.World.Silent.{Quiet, claims_quiet, no_claims, no_claims_quiet, no_claims_sound, unclaimed}
+use Rattle.step_rules.proofs.Line.Stocks.{stock_join}
+use Rattle.step_rules.proofs.Rely.Seeing.{lawful_seen, stock_seen}
+use Rattle.step_rules.proofs.Line.Trails.{no_trail, trail_more, trail_stand}
+use Rattle.step_rules.proofs.World.Handing.{Hands, handed_cells, handed_seat}
+use Rattle.step_rules.proofs.Numbers.Places.{at_append}
 
 -- of two first parts of one list, the longer goes on from both
 go_on : (a b r q : List Entry) → a ++ r ≡ b ++ q → length a ≤ length b → (m : List Entry) × (b ≡ a ++ m) × (r ≡ m ++ q)

@@ -4,12 +4,12 @@ use mathlib.Core.Option.{none}
 use Rattle.atomic_table.specs.Table.{step, Allows}
 use Rattle.seat_history.specs.declared.call.Call.{Call}
 use Rattle.seat_history.specs.declared.reply.Reply.{Reply}
-use Rattle.step_rules.proofs.Frames.{node_is, one_place}
-use Rattle.step_rules.proofs.Lawfuls.{lawful_stand}
-use Rattle.step_rules.proofs.Moments.{Moment, load_owed, moment, own_step, seat, world}
-use Rattle.step_rules.proofs.Sets.{has_first}
-use Rattle.step_rules.proofs.Stocks.{stock_push}
-use Rattle.step_rules.proofs.Trails.{goes_on_same, trail_stand, trail_step}
+use Rattle.step_rules.proofs.World.Frames.{node_is, one_place}
+use Rattle.step_rules.proofs.Line.Lawfuls.{lawful_stand}
+use Rattle.step_rules.proofs.Rely.Moments.{Moment, load_owed, moment, own_step, seat, world}
+use Rattle.step_rules.proofs.Numbers.Sets.{has_first}
+use Rattle.step_rules.proofs.Line.Stocks.{stock_push}
+use Rattle.step_rules.proofs.Line.Trails.{goes_on_same, trail_stand, trail_step}
 use Rattle.step_rules.specs.Kinds.Node.{Reads}
 use Rattle.step_rules.specs.Kinds.Standing.{MayStand}
 use Rattle.step_rules.specs.Layout.{node_at}

@@ -2,9 +2,9 @@
 use Rattle.std.proofs.Common.{ℕ, ◌<◌, length, sym, subst, refl}
 use mathlib.Core.Option.{none}
 use Rattle.atomic_table.specs.Table.{step, Allows}
-use Rattle.step_rules.proofs.Frames.{backup_is, one_cell}
-use Rattle.step_rules.proofs.Moments.{load_owed, moment}
-use Rattle.step_rules.proofs.Seeing.{seeing, sees, sees_told}
+use Rattle.step_rules.proofs.World.Frames.{backup_is, one_cell}
+use Rattle.step_rules.proofs.Rely.Moments.{load_owed, moment}
+use Rattle.step_rules.proofs.Rely.Seeing.{seeing, sees, sees_told}
 use Rattle.step_rules.specs.Kinds.Backup.{Looks}
 use Rattle.step_rules.specs.Layout.{backup_at, cells}
 use Rattle.step_rules.specs.Plays.{Mine, looked}

@@ -8,13 +8,13 @@ use Rattle.std.proofs.lemmas.List.Filters.{length-filter_both}
 use mathlib.Core.Option.{none, some}
 use lib.ListN.{get_elem?}
 use Rattle.atomic_table.specs.Table.{step, Allows}
-use Rattle.step_rules.proofs.Advance.{claim_found, claims_kept, guarded}
-use Rattle.step_rules.proofs.Handing.{Hands, handed_cells, handed_leaves}
+use Rattle.step_rules.proofs.Rely.Advance.{claim_found, claims_kept, guarded}
+use Rattle.step_rules.proofs.World.Handing.{Hands, handed_cells, handed_leaves}
 use Rattle.step_rules.proofs.Keeps.Loads.{counted_ok}
-use Rattle.step_rules.proofs.Moments.{Made, Moment, advance, load_owed, moment, own_step, seat, world}
-use Rattle.step_rules.proofs.Frames.{claim_is, past}
+use Rattle.step_rules.proofs.Rely.Moments.{Made, Moment, advance, load_owed, moment, own_step, seat, world}
+use Rattle.step_rules.proofs.World.Frames.{claim_is, past}
 use Rattle.step_rules.proofs.Keeps.Stores.{at_mapped}
-use Rattle.step_rules.proofs.Sets.{at_has, nodes_of-append, once-append, has_place}
+use Rattle.step_rules.proofs.Numbers.Sets.{at_has, nodes_of-append, once-append, has_place}
 use Rattle.step_rules.specs.Claims.{Guards, On}
 use Rattle.step_rules.specs.Kinds.Claiming.{FindsOwn, MayScan}
 use Rattle.step_rules.specs.Layout.{claim_at, nodes, nodes_at, words}
@@ -31,7 +31,7 @@ use Rattle.step_rules.specs.declared.plan.Plan.{Plan}
 use Rattle.step_rules.specs.declared.view.Claim.{Claim}
 use Rattle.step_rules.specs.declared.view.Held.{Held}
 use Rattle.step_rules.specs.declared.view.View.{View}
-use Rattle.step_rules.proofs.Places.{at_append}
+use Rattle.step_rules.proofs.Numbers.Places.{at_append}
 
 -- what a filter leaves
 pub has_filter : (f : ℕ → Bool) (l : List ℕ) (n : ℕ) → has (filter f l) n ≡ true → (has l n ≡ true) × (f n ≡ true)

@@ -18,12 +18,12 @@ use Rattle.step_rules.specs.declared.plan.Plan.{Plan}
 use Rattle.step_rules.specs.declared.view.Held.{Held}
 use Rattle.step_rules.specs.declared.view.Stand.{Stand}
 use Rattle.step_rules.specs.declared.view.View.{View}
-use Rattle.step_rules.proofs.Moments.{Moment, moment, seat, total_set, world}
-use Rattle.step_rules.proofs.Sets.{at_has, has_at, has_first, has_left, has_right, nodes_of-append, once_apart, once_parts}
-use Rattle.step_rules.proofs.Silent.{Quiet, claims_quiet, no_claims_quiet, unclaimed}
-use Rattle.step_rules.proofs.Stocks.{stock_fresh, stock_unused}
-use Rattle.step_rules.proofs.Handing.{Hands, handed_cells, handed_seat}
-use Rattle.step_rules.proofs.Places.{at_behind, at_more}
+use Rattle.step_rules.proofs.Rely.Moments.{Moment, moment, seat, total_set, world}
+use Rattle.step_rules.proofs.Numbers.Sets.{at_has, has_at, has_first, has_left, has_right, nodes_of-append, once_apart, once_parts}
+use Rattle.step_rules.proofs.World.Silent.{Quiet, claims_quiet, no_claims_quiet, unclaimed}
+use Rattle.step_rules.proofs.Line.Stocks.{stock_fresh, stock_unused}
+use Rattle.step_rules.proofs.World.Handing.{Hands, handed_cells, handed_seat}
+use Rattle.step_rules.proofs.Numbers.Places.{at_behind, at_more}
 
 one_more : (share n l : ℕ) → l ≡ suc n → share * l ≡ share * n + share
 one_more share n l e = ap (λ k. share * k) e ∙ mul-suc share n

@@ -8,12 +8,12 @@ use lib.ListN.{get_elem?}
 use Rattle.atomic_table.specs.Table.{step, Allows}
 use Rattle.seat_history.proofs.Changed.{set_at_here}
 use Rattle.seat_history.specs.Contents.{set_at}
-use Rattle.step_rules.proofs.Advance.{claims_kept, none_other}
-use Rattle.step_rules.proofs.Chains.{cell_stays}
-use Rattle.step_rules.proofs.Frames.{backup_else, claim_else, is_set, node_else, node_here, one_place, set_at_else}
-use Rattle.step_rules.proofs.Moments.{Made, Moment, advance, moment, seat, store_owed, world}
-use Rattle.step_rules.proofs.Sets.{at_has}
-use Rattle.step_rules.proofs.Trails.{goes_on_same, trail_step}
+use Rattle.step_rules.proofs.Rely.Advance.{claims_kept, none_other}
+use Rattle.step_rules.proofs.World.Chains.{cell_stays}
+use Rattle.step_rules.proofs.World.Frames.{backup_else, claim_else, is_set, node_else, node_here, one_place, set_at_else}
+use Rattle.step_rules.proofs.Rely.Moments.{Made, Moment, advance, moment, seat, store_owed, world}
+use Rattle.step_rules.proofs.Numbers.Sets.{at_has}
+use Rattle.step_rules.proofs.Line.Trails.{goes_on_same, trail_step}
 use Rattle.step_rules.specs.Claims.{OWN, On}
 use Rattle.step_rules.specs.Layout.{node_at}
 use Rattle.step_rules.specs.Nodes.{IsNode, SeatNodes}

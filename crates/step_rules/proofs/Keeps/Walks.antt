@@ -20,16 +20,16 @@ use Rattle.step_rules.specs.declared.view.Claim.{Claim}
 use Rattle.step_rules.specs.declared.view.Held.{Held}
 use Rattle.step_rules.specs.declared.view.Kind.TheVariants.{Recheck}
 use Rattle.step_rules.specs.declared.view.View.{View}
-use Rattle.step_rules.proofs.Chains.{chained_at}
-use Rattle.step_rules.proofs.Claimed.{MayBecome, standing_may}
-use Rattle.step_rules.proofs.Frames.{backup_is, one_cell}
-use Rattle.step_rules.proofs.Fronts.{chained_once}
+use Rattle.step_rules.proofs.World.Chains.{chained_at}
+use Rattle.step_rules.proofs.Rely.Claimed.{MayBecome, standing_may}
+use Rattle.step_rules.proofs.World.Frames.{backup_is, one_cell}
+use Rattle.step_rules.proofs.Order.Fronts.{chained_once}
 use Rattle.step_rules.proofs.Keeps.Claiming.{stands_then}
-use Rattle.step_rules.proofs.Moments.{Made, Moment, load_owed, moment, seat, world}
-use Rattle.step_rules.proofs.Owns.{words_at}
-use Rattle.step_rules.proofs.Places.{there_at}
-use Rattle.step_rules.proofs.Seeing.{seeing, sees, sees_falls, sees_told}
-use Rattle.step_rules.proofs.Sets.{at_has}
+use Rattle.step_rules.proofs.Rely.Moments.{Made, Moment, load_owed, moment, seat, world}
+use Rattle.step_rules.proofs.Ties.Owns.{words_at}
+use Rattle.step_rules.proofs.Numbers.Places.{there_at}
+use Rattle.step_rules.proofs.Rely.Seeing.{seeing, sees, sees_falls, sees_told}
+use Rattle.step_rules.proofs.Numbers.Sets.{at_has}
 
 pub walk_tells : Tells WALK → ⊥
 walk_tells tells = ⊎_elim (λ q. omega arith) (λ q. omega arith) tells

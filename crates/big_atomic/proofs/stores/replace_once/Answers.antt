@@ -7,7 +7,7 @@ use Rattle.big_atomic.proofs.Trying.{may_store}
 use Rattle.hazard_claims.specs.declared.claims.Claim.TheVariants.{Own}
 use Rattle.seat_history.specs.Step.{is_same}
 use Rattle.seat_history.specs.declared.call.Call.TheVariants.{Store}
-use Rattle.step_rules.proofs.Notes.{drops_alone}
+use Rattle.step_rules.proofs.Ties.Notes.{drops_alone}
 use Rattle.big_atomic.proofs.stores.replace_once.Goals as goal
 
 pub exchange-requires-clause-may : goal.exchange-requires-clause-may

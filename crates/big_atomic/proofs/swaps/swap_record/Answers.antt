@@ -6,7 +6,7 @@ use Rattle.big_atomic.proofs.Swapping.{lost_costs, lost_down, lost_fits, lost_re
 use Rattle.big_atomic.proofs.Trying.{may_swap, prepared_costs, trying}
 use Rattle.seat_history.proofs.Changed.{same_from_words}
 use Rattle.seat_history.specs.declared.call.Call.TheVariants.{Swap}
-use Rattle.step_rules.proofs.Notes.{drops_alone}
+use Rattle.step_rules.proofs.Ties.Notes.{drops_alone}
 use Rattle.big_atomic.proofs.swaps.swap_record.Goals as goal
 
 pub exchange-requires-clause-may : goal.exchange-requires-clause-may

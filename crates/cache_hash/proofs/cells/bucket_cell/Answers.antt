@@ -1,6 +1,6 @@
 use Rattle.std.proofs.Common.{◌<◌, ◌+◌, arith, ap, subst, sym}
 use Rattle.seat_history.specs.Key.{key_number}
-use Rattle.step_rules.proofs.BucketOf.{bucket_below, key_there}
+use Rattle.step_rules.proofs.Order.BucketOf.{bucket_below, key_there}
 use Rattle.step_rules.specs.Layout.{cells}
 use Rattle.step_rules.specs.declared.plan.Plan.{Plan}
 use Rattle.cache_hash.proofs.cells.bucket_cell.Goals as goal

@@ -2,7 +2,7 @@ use Rattle.std.proofs.Common.{◌≡◌, ◌∙◌, ◌*◌, ◌/◌, ◌%◌, �
 use Rattle.std.specs.Int.{rotate_left, w64}
 use Rattle.std.specs.Prelude.{bit_xor}
 use Rattle.seat_history.specs.Key.{key_number}
-use Rattle.step_rules.proofs.BucketOf.{high_word, low_word}
+use Rattle.step_rules.proofs.Order.BucketOf.{high_word, low_word}
 use Rattle.step_rules.specs.History.{bucket_of}
 use Rattle.step_rules.proofs.bucket.bucket_index.Goals as goal
 

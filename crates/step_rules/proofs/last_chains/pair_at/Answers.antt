@@ -1,9 +1,9 @@
 use Rattle.std.proofs.Common.{◌+◌, length-set, drop, sym, ◌∙◌, arith}
 use Rattle.std.proofs.lemmas.List.{get_or-drop}
 use Rattle.std.specs.Mem.Slots.{slots_items, slots_counts}
-use Rattle.step_rules.proofs.Closings.{read_more}
-use Rattle.step_rules.proofs.LastChains.{pair_read}
-use Rattle.step_rules.proofs.Places.{there_at}
+use Rattle.step_rules.proofs.Line.Closings.{read_more}
+use Rattle.step_rules.proofs.Order.LastChains.{pair_read}
+use Rattle.step_rules.proofs.Numbers.Places.{there_at}
 use Rattle.step_rules.proofs.last_chains.pair_at.Goals as goal
 
 pub loop-j-preserved : goal.loop-j-preserved

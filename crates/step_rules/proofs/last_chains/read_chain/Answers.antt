@@ -2,8 +2,8 @@ use Rattle.std.proofs.Common.{◌+◌, ◌*◌, ◌≤◌, ◌<◌, ◌^◌, ℕ
 use Rattle.std.specs.Mem.Slots.{slots_items}
 use Rattle.seat_history.specs.Plain.{found_in}
 use Rattle.seat_history.specs.declared.words.TheConstants.{WIDTH}
-use Rattle.step_rules.proofs.LastChains.{ends_empty, ends_last, goes_on, node_room, not_past, starts}
-use Rattle.step_rules.proofs.Places.{there_at}
+use Rattle.step_rules.proofs.Order.LastChains.{ends_empty, ends_last, goes_on, node_room, not_past, starts}
+use Rattle.step_rules.proofs.Numbers.Places.{there_at}
 use Rattle.step_rules.specs.declared.layout.TheConstants.{NODE_WIDTH}
 use Rattle.step_rules.proofs.last_chains.read_chain.Goals as goal
 

@@ -1,7 +1,7 @@
 use Rattle.std.proofs.Common.{List}
 use Rattle.std.specs.Mem.Slots.{slots_items}
 use Rattle.seat_history.specs.Plain.{found_in}
-use Rattle.step_rules.proofs.LastChains.{GoesOn}
+use Rattle.step_rules.proofs.Order.LastChains.{GoesOn}
 use Rattle.step_rules.specs.Closing.{IsChainAt}
 use Rattle.step_rules.specs.declared.view.Held.{Held}
 use Rattle.step_rules.proofs.last_chains.read_chain.Given as goal

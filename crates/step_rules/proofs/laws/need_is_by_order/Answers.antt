@@ -1,4 +1,4 @@
-use Rattle.step_rules.proofs.LastInserts.{need_told}
+use Rattle.step_rules.proofs.Order.LastInserts.{need_told}
 use Rattle.step_rules.proofs.laws.need_is_by_order.Goals as goal
 
 pub returns : goal.returns

@@ -1,4 +1,4 @@
-use Rattle.step_rules.proofs.LastInserts.{bucket_order}
+use Rattle.step_rules.proofs.Order.LastInserts.{bucket_order}
 use Rattle.step_rules.proofs.laws.records_are_in_order.Goals as goal
 
 pub returns : goal.returns

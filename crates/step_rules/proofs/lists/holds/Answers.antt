@@ -3,7 +3,7 @@ use Rattle.std.proofs.lemmas.Iterator.Adapters.{YieldsList-from_rev_slice}
 use Rattle.std.proofs.lemmas.Iterator.Search.{any_from_yields_List}
 use Rattle.std.proofs.lemmas.List.Sorted.{IsPermutation-reverse, list_any-IsPermutation}
 use borrow.Author.Tests.{tests}
-use Rattle.step_rules.proofs.Bags.{has_any}
+use Rattle.step_rules.proofs.Numbers.Bags.{has_any}
 use Rattle.step_rules.proofs.lists.holds.Goals as goal
 
 pub returns : goal.returns

@@ -1,6 +1,6 @@
 use Rattle.std.proofs.Common.{◌≡◌, ◌-◌, ◌<◌, length, true, take, subst, sym, ◌∙◌, arith}
 use Rattle.std.proofs.lemmas.List.{get_or_default}
-use Rattle.step_rules.proofs.Bags.{has_shorter, has_some, without_swapped}
+use Rattle.step_rules.proofs.Numbers.Bags.{has_shorter, has_some, without_swapped}
 use Rattle.step_rules.specs.Bags.{IsWithout}
 use Rattle.step_rules.specs.World.{has}
 use Rattle.step_rules.proofs.lists.take_out.Goals as goal

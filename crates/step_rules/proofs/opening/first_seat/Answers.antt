@@ -2,9 +2,9 @@ use Rattle.std.proofs.Common.{◌*◌, ◌∙◌, ℕ, length, refl, replicate, 
 use Rattle.std.proofs.Math.Nat.{mul_comm}
 use Rattle.atomic_table.specs.Table.{Me}
 use Rattle.seat_history.specs.declared.call.Call.{Call}
-use Rattle.step_rules.proofs.Opens.{number_first, starts_fresh}
-use Rattle.step_rules.proofs.Sets.{length-count_up}
-use Rattle.step_rules.proofs.Tied.{lawful, new_whole}
+use Rattle.step_rules.proofs.World.Opens.{number_first, starts_fresh}
+use Rattle.step_rules.proofs.Numbers.Sets.{length-count_up}
+use Rattle.step_rules.proofs.Ties.Tied.{lawful, new_whole}
 use Rattle.step_rules.specs.Sound.{Sound}
 use Rattle.step_rules.specs.Views.{starting}
 use Rattle.step_rules.specs.declared.layout.TheConstants.{CLAIMS}

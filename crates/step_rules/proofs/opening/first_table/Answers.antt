@@ -3,7 +3,7 @@ use Rattle.std.proofs.lemmas.Result.{IfOk-weaker}
 use Rattle.step_rules.specs.Sound.{Sound}
 use Rattle.step_rules.specs.Starts.{IsStart}
 use Rattle.step_rules.specs.Views.{starting}
-use Rattle.step_rules.proofs.Opens.{opens, starts_sound}
+use Rattle.step_rules.proofs.World.Opens.{opens, starts_sound}
 use Rattle.step_rules.proofs.opening.first_table.Goals as goal
 
 pub of_words-requires : goal.of_words-requires

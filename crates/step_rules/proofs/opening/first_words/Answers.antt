@@ -1,7 +1,7 @@
 use Rattle.std.proofs.Common.{refl, arith}
 use Rattle.seat_history.specs.declared.words.TheConstants.{WIDTH}
-use Rattle.step_rules.proofs.Opens.{cell_there, one_set}
-use Rattle.step_rules.proofs.Sizes.{node_within}
+use Rattle.step_rules.proofs.World.Opens.{cell_there, one_set}
+use Rattle.step_rules.proofs.World.Sizes.{node_within}
 use Rattle.step_rules.proofs.opening.first_words.Goals as goal
 
 pub loop-cell-preserved : goal.loop-cell-preserved

@@ -1,6 +1,6 @@
 use Rattle.std.proofs.Common.{◌≡◌, ◌≤◌, vec_len}
 use Rattle.step_rules.specs.Layout.{cells, words}
-use Rattle.step_rules.proofs.Opens.{IsSet}
+use Rattle.step_rules.proofs.World.Opens.{IsSet}
 use Rattle.step_rules.proofs.opening.first_words.Given as goal
 
 abbrev pub invariant-loop-cell : goal.invariant-loop-cell

@@ -1,6 +1,6 @@
 use Rattle.std.proofs.Common.{rules, ◌≡◌, ◌∙◌, ◌+◌, ◌-◌, ◌∷◌, ◌++◌, [], arith}
 use Rattle.step_rules.specs.Views.{count_up}
-use Rattle.step_rules.proofs.Ranges.{count_next}
+use Rattle.step_rules.proofs.Numbers.Ranges.{count_next}
 use Rattle.step_rules.proofs.opening.free_nodes.Goals as goal
 
 pub loop-node-preserved : goal.loop-node-preserved

@@ -3,7 +3,7 @@ use Rattle.atomic_table.specs.Seated.{TableId}
 use Rattle.step_rules.specs.Layout.{cells}
 use Rattle.step_rules.specs.Views.{count_up, starting}
 use Rattle.step_rules.specs.declared.layout.Layout.{Layout}
-use Rattle.step_rules.proofs.Sizes.{nodes_parts, own_count}
+use Rattle.step_rules.proofs.World.Sizes.{nodes_parts, own_count}
 use Rattle.step_rules.proofs.opening.with_room.Goals as goal
 
 pub overflow_sub-own : goal.overflow_sub-own

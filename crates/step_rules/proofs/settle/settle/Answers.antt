@@ -1,7 +1,7 @@
 use Rattle.std.proofs.Common.{◌<◌, ◌∙◌, ap, subst, sym, ℕ}
 use Rattle.step_rules.specs.SeatData.{ObjectData}
-use Rattle.step_rules.proofs.Owed.{settle_call}
-use Rattle.step_rules.proofs.Sizes.{some_word}
+use Rattle.step_rules.proofs.Rely.Owed.{settle_call}
+use Rattle.step_rules.proofs.World.Sizes.{some_word}
 use Rattle.step_rules.proofs.settle.settle.Goals as goal
 
 pub load-requires : goal.load-requires

@@ -3,8 +3,8 @@ use Rattle.std.specs.Mem.Slots.{slots_items}
 use Rattle.seat_history.specs.History.{state_at}
 use Rattle.seat_history.specs.Pairs.{ArePairsOf}
 use Rattle.seat_history.specs.Plain.{found_in}
-use Rattle.step_rules.proofs.LastChains.{all_values, bucket_values}
-use Rattle.step_rules.proofs.Places.{there_at}
+use Rattle.step_rules.proofs.Order.LastChains.{all_values, bucket_values}
+use Rattle.step_rules.proofs.Numbers.Places.{there_at}
 use Rattle.step_rules.specs.Closing.{ClosedData, HasBucket, IsChainAt, with_records}
 use Rattle.step_rules.specs.History.{IsHistory}
 use Rattle.step_rules.specs.Layout.{backup_at, cells_at, nodes, nodes_at}

@@ -1,6 +1,6 @@
 use Rattle.std.proofs.Common.{◌≡◌}
 use Rattle.seat_history.specs.Plain.{found_in}
-use Rattle.step_rules.proofs.LastChains.{bucket_values}
+use Rattle.step_rules.proofs.Order.LastChains.{bucket_values}
 use Rattle.step_rules.proofs.closed.Closed.pairs.Given as goal
 
 -- the map has the pairs of the buckets before

@@ -9,8 +9,8 @@ use Rattle.step_rules.specs.Closing.{ClosedData, EndsWith}
 use Rattle.step_rules.specs.Layout.{cells_at}
 use Rattle.step_rules.specs.declared.closed.Closed.TheInside.{Inside}
 use Rattle.step_rules.specs.declared.layout.TheConstants.{CELL_WIDTH, NODE_WIDTH}
-use Rattle.step_rules.proofs.Closings.{RegisterAt, read_more, register_at}
-use Rattle.step_rules.proofs.Sizes.{node_within, words_fit}
+use Rattle.step_rules.proofs.Line.Closings.{RegisterAt, read_more, register_at}
+use Rattle.step_rules.proofs.World.Sizes.{node_within, words_fit}
 use Rattle.step_rules.proofs.closed.Closed.register.Goals as goal
 
 -- a closed object as contracts see it

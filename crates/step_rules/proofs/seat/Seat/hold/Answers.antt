@@ -1,7 +1,7 @@
 use Rattle.std.proofs.Common.{◌≡◌, true, sym, ap, ◌∙◌, subst, arith}
 use Rattle.std.proofs.lemmas.Bool.{false≢true}
-use Rattle.step_rules.proofs.Bags.{was_there}
-use Rattle.step_rules.proofs.Tied.{is_free, lawful, moved_length, moved_times, tied_lists, within_room}
+use Rattle.step_rules.proofs.Numbers.Bags.{was_there}
+use Rattle.step_rules.proofs.Ties.Tied.{is_free, lawful, moved_length, moved_times, tied_lists, within_room}
 use Rattle.step_rules.specs.SeatData.{SeatData}
 use Rattle.step_rules.specs.World.{has, nodes_of}
 use Rattle.step_rules.proofs.seat.Seat.hold.Goals as goal

@@ -1,5 +1,5 @@
 use Rattle.std.proofs.Common.{arith}
-use Rattle.step_rules.proofs.Tied.{few}
+use Rattle.step_rules.proofs.Ties.Tied.{few}
 use Rattle.step_rules.proofs.seat.Seat.holding.Goals as goal
 
 pub overflow_cast-result : goal.overflow_cast-result

@@ -1,5 +1,5 @@
 use Rattle.std.proofs.Common.{◌<◌, length, sym, subst, arith}
-use Rattle.step_rules.proofs.Tied.{few, tied_notes, within_room}
+use Rattle.step_rules.proofs.Ties.Tied.{few, tied_notes, within_room}
 use Rattle.step_rules.specs.SeatData.{SeatData}
 use Rattle.step_rules.proofs.seat.Seat.note_link.Goals as goal
 

@@ -1,5 +1,5 @@
 use Rattle.std.proofs.Common.{ℕ, length, ap, arith}
-use Rattle.step_rules.proofs.Tied.{few}
+use Rattle.step_rules.proofs.Ties.Tied.{few}
 use Rattle.step_rules.proofs.seat.Seat.retired.Goals as goal
 
 pub overflow_cast-result : goal.overflow_cast-result

@@ -1,8 +1,8 @@
 use Rattle.std.proofs.Common.{◌≡◌, ℕ, true, [], ◌∷◌, sym, ap, ◌∙◌, subst, arith, ⊎_elim}
 use Rattle.std.proofs.lemmas.Bool.{false≢true}
-use Rattle.step_rules.proofs.Bags.{one_there}
-use Rattle.step_rules.proofs.Sets.{has-append}
-use Rattle.step_rules.proofs.Tied.{lawful, moved_length, moved_times, tied_lists, within_room}
+use Rattle.step_rules.proofs.Numbers.Bags.{one_there}
+use Rattle.step_rules.proofs.Numbers.Sets.{has-append}
+use Rattle.step_rules.proofs.Ties.Tied.{lawful, moved_length, moved_times, tied_lists, within_room}
 use Rattle.step_rules.specs.SeatData.{SeatData}
 use Rattle.step_rules.specs.Steps.{IsUnannounced}
 use Rattle.step_rules.specs.World.{has}

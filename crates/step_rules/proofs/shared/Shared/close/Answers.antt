@@ -9,9 +9,9 @@ use Rattle.step_rules.specs.SeatData.{IsSeat, ObjectData, SeatData}
 use Rattle.step_rules.specs.World.{has}
 use Rattle.step_rules.specs.declared.plan.Plan.{Plan}
 use Rattle.step_rules.specs.declared.view.View.{View}
-use Rattle.step_rules.proofs.Closings.{Closes, closes, none_lost}
-use Rattle.step_rules.proofs.Joining.{quiet_lists}
-use Rattle.step_rules.proofs.Tied.{lawful}
+use Rattle.step_rules.proofs.Line.Closings.{Closes, closes, none_lost}
+use Rattle.step_rules.proofs.Ties.Joining.{quiet_lists}
+use Rattle.step_rules.proofs.Ties.Tied.{lawful}
 use Rattle.step_rules.proofs.shared.Shared.close.Goals as goal
 
 module _ (c : goal.After-drop-seat-inside-3) where

@@ -10,11 +10,11 @@ use Rattle.step_rules.specs.declared.plan.Plan.{Plan}
 use Rattle.step_rules.specs.declared.seat.Seat.TheInside.{Inside}
 use Rattle.step_rules.specs.declared.view.View.{View}
 use Rattle.step_rules.proofs.Keeps.Splits.{splits}
-use Rattle.step_rules.proofs.Owed.{meets}
-use Rattle.step_rules.proofs.Sets.{has_first}
-use Rattle.step_rules.proofs.Sizes.{some_word}
-use Rattle.step_rules.proofs.Splitting.{cut_at, free_length, left_new, right_fresh, right_least, right_length, share_room}
-use Rattle.step_rules.proofs.Tied.{IsWhole, lawful, new_whole}
+use Rattle.step_rules.proofs.Rely.Owed.{meets}
+use Rattle.step_rules.proofs.Numbers.Sets.{has_first}
+use Rattle.step_rules.proofs.World.Sizes.{some_word}
+use Rattle.step_rules.proofs.Ties.Splitting.{cut_at, free_length, left_new, right_fresh, right_least, right_length, share_room}
+use Rattle.step_rules.proofs.Ties.Tied.{IsWhole, lawful, new_whole}
 use Rattle.step_rules.proofs.shared.Shared.cut.Goals as goal
 
 pub split_seat-inner-requires : goal.split_seat-inner-requires

@@ -4,11 +4,11 @@ use Rattle.seat_history.specs.declared.entry.Entry.{Entry}
 use Rattle.step_rules.specs.History.{GoesOn}
 use Rattle.step_rules.specs.SeatData.{SeatData, all_zero, claim_words, holds_record, is_empty, is_quiet}
 use Rattle.step_rules.specs.Views.{joined_view}
-use Rattle.step_rules.proofs.Joining.{count_few, free_room, merged, quiet_claims, removes_few, record_same, retired_room, seen_parts, whole_joined}
+use Rattle.step_rules.proofs.Ties.Joining.{count_few, free_room, merged, quiet_claims, removes_few, record_same, retired_room, seen_parts, whole_joined}
 use Rattle.step_rules.proofs.Keeps.Joins.{joins}
-use Rattle.step_rules.proofs.Tied.{data_of, lawful}
-use Rattle.step_rules.proofs.Owed.{meets}
-use Rattle.step_rules.proofs.Sizes.{some_word}
+use Rattle.step_rules.proofs.Ties.Tied.{data_of, lawful}
+use Rattle.step_rules.proofs.Rely.Owed.{meets}
+use Rattle.step_rules.proofs.World.Sizes.{some_word}
 use Rattle.step_rules.proofs.shared.Shared.join.Goals as goal
 
 pub join_seat-requires : goal.join_seat-requires

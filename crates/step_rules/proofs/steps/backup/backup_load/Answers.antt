@@ -1,6 +1,6 @@
 use Rattle.std.proofs.Common.{◌<◌, false, subst}
-use Rattle.step_rules.proofs.Owed.{look_call, meets}
-use Rattle.step_rules.proofs.Tied.{lawful, whole_looked}
+use Rattle.step_rules.proofs.Rely.Owed.{look_call, meets}
+use Rattle.step_rules.proofs.Ties.Tied.{lawful, whole_looked}
 use Rattle.step_rules.specs.Layout.{backup_at, cells}
 use Rattle.step_rules.specs.declared.plan.Plan.{Plan}
 use Rattle.step_rules.proofs.steps.backup.backup_load.Goals as goal

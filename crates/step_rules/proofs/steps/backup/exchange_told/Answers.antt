@@ -1,8 +1,8 @@
 use Rattle.std.proofs.Common.{ℕ, false, ◌+◌, ◌-◌, ◌*◌, ◌/◌, ◌<◌, ◌≤◌, ◌∷◌, ◌++◌, length, sym, ap, ◌∙◌, subst, arith}
 use Rattle.seat_history.specs.declared.call.Call.{Call}
-use Rattle.step_rules.proofs.Owed.{exchange_call, meets, plan_of}
-use Rattle.step_rules.proofs.Tied.{exchange_there, lawful, whole_looked}
-use Rattle.step_rules.proofs.Winning.{room_won, whole_won}
+use Rattle.step_rules.proofs.Rely.Owed.{exchange_call, meets, plan_of}
+use Rattle.step_rules.proofs.Ties.Tied.{exchange_there, lawful, whole_looked}
+use Rattle.step_rules.proofs.Ties.Winning.{room_won, whole_won}
 use Rattle.step_rules.specs.Kinds.Backup.{MayExchange, Wins}
 use Rattle.step_rules.specs.Layout.{backup_at, cells, nodes}
 use Rattle.step_rules.specs.SeatData.{SeatData}

@@ -1,6 +1,6 @@
 use Rattle.std.proofs.Common.{ap, ◌∙◌}
-use Rattle.step_rules.proofs.Owed.{clear_call, meets, plan_of}
-use Rattle.step_rules.proofs.Tied.{least_below, whole_cleared}
+use Rattle.step_rules.proofs.Rely.Owed.{clear_call, meets, plan_of}
+use Rattle.step_rules.proofs.Ties.Tied.{least_below, whole_cleared}
 use Rattle.step_rules.specs.Layout.{claim_at}
 use Rattle.step_rules.proofs.steps.claim.claim_clear.Goals as goal
 

@@ -1,6 +1,6 @@
 use Rattle.std.proofs.Common.{◌+◌, sym, ap, ◌∙◌, subst}
-use Rattle.step_rules.proofs.Owed.{claim_call, meets, plan_of}
-use Rattle.step_rules.proofs.Tied.{least_below, own_held, whole_announced}
+use Rattle.step_rules.proofs.Rely.Owed.{claim_call, meets, plan_of}
+use Rattle.step_rules.proofs.Ties.Tied.{least_below, own_held, whole_announced}
 use Rattle.step_rules.specs.Layout.{claim_at}
 use Rattle.step_rules.specs.SeatData.{SeatData}
 use Rattle.step_rules.specs.Steps.{MayClaim}

@@ -1,6 +1,6 @@
 use Rattle.std.proofs.Common.{ℕ, ◌<◌, false, sym, ◌∙◌, subst, ⊎_elim}
-use Rattle.step_rules.proofs.Owed.{meets, recheck_call}
-use Rattle.step_rules.proofs.Tied.{data_of, lawful, whole_rechecked, whole_walked}
+use Rattle.step_rules.proofs.Rely.Owed.{meets, recheck_call}
+use Rattle.step_rules.proofs.Ties.Tied.{data_of, lawful, whole_rechecked, whole_walked}
 use Rattle.atomic_table.specs.Seated.{TableId}
 use Rattle.step_rules.specs.Claims.{Tells}
 use Rattle.step_rules.specs.Kinds.Claiming.{Rechecks}

@@ -1,6 +1,6 @@
 use Rattle.std.proofs.Common.{◌<◌, false, ⊎_elim, sym, subst}
-use Rattle.step_rules.proofs.Owed.{load_call, meets, plan_of}
-use Rattle.step_rules.proofs.Tied.{lawful, own_held, own_there, whole_loaded}
+use Rattle.step_rules.proofs.Rely.Owed.{load_call, meets, plan_of}
+use Rattle.step_rules.proofs.Ties.Tied.{lawful, own_held, own_there, whole_loaded}
 use Rattle.step_rules.specs.Layout.{node_at, nodes}
 use Rattle.step_rules.specs.SeatData.{SeatData}
 use Rattle.step_rules.specs.Steps.{MayLoad}

@@ -1,7 +1,7 @@
 use Rattle.std.proofs.Common.{◌<◌, sym, ap, ◌∙◌, subst}
 use Rattle.step_rules.proofs.Keeps.Stores.{stored_nodes}
-use Rattle.step_rules.proofs.Owed.{meets, store_call, plan_of}
-use Rattle.step_rules.proofs.Tied.{own_of, own_there, whole_stored}
+use Rattle.step_rules.proofs.Rely.Owed.{meets, store_call, plan_of}
+use Rattle.step_rules.proofs.Ties.Tied.{own_of, own_there, whole_stored}
 use Rattle.step_rules.specs.Layout.{node_at, nodes}
 use Rattle.step_rules.specs.SeatData.{SeatData}
 use Rattle.step_rules.specs.Steps.{IsUnannounced}

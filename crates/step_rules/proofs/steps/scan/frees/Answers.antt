@@ -1,5 +1,5 @@
 use Rattle.std.proofs.Common.{◌&&◌, not, sym, ap, ◌∙◌}
-use Rattle.step_rules.proofs.Parting.{not_found}
+use Rattle.step_rules.proofs.Ties.Parting.{not_found}
 use Rattle.step_rules.specs.World.{has}
 use Rattle.step_rules.proofs.steps.scan.frees.Goals as goal
 

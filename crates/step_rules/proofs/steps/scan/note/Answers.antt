@@ -1,6 +1,6 @@
 use Rattle.std.proofs.Common.{ℕ, [], eqb, eq-eqb, ne_eqb, sym, ap, ◌∙◌, Vec, Global}
 use Rattle.std.proofs.lemmas.Bool.{cond-false, cond-true}
-use Rattle.step_rules.proofs.Parting.{has_noted}
+use Rattle.step_rules.proofs.Ties.Parting.{has_noted}
 use Rattle.step_rules.specs.Views.{noted}
 use Rattle.step_rules.specs.World.{has}
 use Rattle.step_rules.proofs.steps.scan.note.Goals as goal

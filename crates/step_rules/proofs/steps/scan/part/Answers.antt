@@ -3,7 +3,7 @@ use Rattle.std.proofs.lemmas.List.{take_all}
 use Rattle.std.proofs.lemmas.List.Filters.{FiltersInPlace-all}
 use Rattle.std.proofs.lemmas.List.Sorted.{IsNonDecreasingBy-from_sort}
 use Rattle.std.specs.List.Sorted.{IsNonDecreasing}
-use Rattle.step_rules.proofs.Parting.{Parted, frees_first, frees_test, parted_free, parted_kept, parted_read, parted_room}
+use Rattle.step_rules.proofs.Ties.Parting.{Parted, frees_first, frees_test, parted_free, parted_kept, parted_read, parted_room}
 use Rattle.step_rules.specs.World.{has}
 use Rattle.step_rules.proofs.steps.scan.part.Goals as goal
 

@@ -1,5 +1,5 @@
 use Rattle.std.proofs.Common.{◌≡◌, vec_capacity}
-use Rattle.step_rules.proofs.Parting.{Parted, frees_first}
+use Rattle.step_rules.proofs.Ties.Parting.{Parted, frees_first}
 use Rattle.step_rules.proofs.steps.scan.part.Given as goal
 
 abbrev pub invariant-loop-i : goal.invariant-loop-i

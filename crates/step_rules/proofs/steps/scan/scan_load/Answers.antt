@@ -1,7 +1,7 @@
 use Rattle.std.proofs.Common.{◌≡◌, ◌≢◌, false, ◌+◌, suc, ◌*◌, ◌<◌, ◌++◌, ℕ, List, cond, eqb, length, sym, ap, ◌∙◌, subst, arith}
-use Rattle.step_rules.proofs.Owed.{meets, scan_call}
-use Rattle.step_rules.proofs.Scanned.{freed_then, last_word, scanned_last, whole_freed, whole_noted}
-use Rattle.step_rules.proofs.Tied.{lawful, within_room}
+use Rattle.step_rules.proofs.Rely.Owed.{meets, scan_call}
+use Rattle.step_rules.proofs.Ties.Scanned.{freed_then, last_word, scanned_last, whole_freed, whole_noted}
+use Rattle.step_rules.proofs.Ties.Tied.{lawful, within_room}
 use Rattle.step_rules.specs.Kinds.Claiming.{MayScan}
 use Rattle.step_rules.specs.SeatData.{ObjectData, SeatData}
 use Rattle.step_rules.specs.declared.layout.TheConstants.{CLAIMS}

@@ -1,9 +1,9 @@
 use Rattle.std.proofs.Common.{refl, sym, ap, ◌∙◌, subst, arith, true, false}
 use Rattle.seat_history.specs.declared.call.Call.{Call}
 use Rattle.seat_history.specs.declared.reply.Reply.{Reply}
-use Rattle.step_rules.proofs.Owed.{meets, stand_call}
-use Rattle.step_rules.proofs.Records.{else_holding, holding_after}
-use Rattle.step_rules.proofs.Tied.{lawful, whole_stood}
+use Rattle.step_rules.proofs.Rely.Owed.{meets, stand_call}
+use Rattle.step_rules.proofs.Line.Records.{else_holding, holding_after}
+use Rattle.step_rules.proofs.Ties.Tied.{lawful, whole_stood}
 use Rattle.step_rules.specs.Kinds.Standing.{MayStand}
 use Rattle.step_rules.specs.SeatData.{SeatData}
 use Rattle.step_rules.proofs.steps.stand.stand_told.Goals as goal

@@ -1,0 +1,4 @@
+pub mod Bags
+pub mod Places
+pub mod Ranges
+pub mod Sets

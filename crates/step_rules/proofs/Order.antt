@@ -1,0 +1,13 @@
+pub mod BucketOf
+pub mod Edits
+pub mod Fronting
+pub mod Fronts
+pub mod Inserting
+pub mod LastChains
+pub mod LastInserts
+pub mod MayChange
+pub mod OneOrder
+pub mod Pages
+pub mod RecordsAt
+pub mod RecordsOrder
+pub mod RecordsTell

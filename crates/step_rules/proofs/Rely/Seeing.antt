@@ -1,0 +1,152 @@
+-- What a seat sees of a register's cell, by a load of its backup or an exchange that found another word.
+use Rattle.std.proofs.Common.{◌≡◌, ◌≢◌, ℕ, suc, true, ◌+◌, ◌/◌, ◌<◌, ◌≤◌, [], ◌∷◌, ◌++◌, List, Some, length, drop, refl, sym, ap, ◌∙◌, subst}
+use Rattle.std.proofs.Common.{le_refl, append-nil, arith}
+use lib.ListN.{get_elem?}
+use Rattle.seat_history.specs.Contents.{Contents}
+use Rattle.seat_history.specs.History.{state_at}
+use Rattle.seat_history.specs.declared.entry.Entry.{Entry}
+use Rattle.step_rules.specs.Cells.{IsCell, register_chain}
+use Rattle.step_rules.specs.Claims.{SeatClaims}
+use Rattle.step_rules.specs.History.{NoneBy, NoneOn}
+use Rattle.step_rules.specs.Kinds.Backup.{Looks}
+use Rattle.step_rules.specs.Lawful.{Lawful}
+use Rattle.step_rules.specs.Layout.{cells, nodes}
+use Rattle.step_rules.specs.Looks.{IsLook, LookHolds, SeatLook}
+use Rattle.step_rules.specs.Nodes.{IsNode}
+use Rattle.step_rules.specs.Rule.{backup_word}
+use Rattle.step_rules.specs.Seats.{SeatOk}
+use Rattle.step_rules.specs.Stock.{IsStock}
+use Rattle.step_rules.specs.Views.{counted, look_at, looked_view, number}
+use Rattle.step_rules.specs.World.{World, Live, Chained, has, link}
+use Rattle.step_rules.specs.declared.plan.Plan.{Plan}
+use Rattle.step_rules.specs.declared.view.Held.{Held}
+use Rattle.step_rules.specs.declared.view.Kind.{Kind}
+use Rattle.step_rules.specs.declared.view.Look.{Look}
+use Rattle.step_rules.specs.declared.view.View.{View}
+use Rattle.step_rules.proofs.Rely.Advance.{goes_further}
+use Rattle.step_rules.proofs.World.Chains.{chained_linked}
+use Rattle.step_rules.proofs.Rely.Claimed.{claims_more}
+use Rattle.step_rules.proofs.Order.Edits.{one_node}
+use Rattle.step_rules.proofs.Line.Lawfuls.{lawful_more}
+use Rattle.step_rules.proofs.Rely.Moments.{Made, Moment, own_step, seat, world}
+use Rattle.step_rules.proofs.Order.RecordsTell.{register_records}
+use Rattle.step_rules.proofs.Line.Stocks.{stock_more}
+use Rattle.step_rules.proofs.Line.Trails.{trail_step}
+
+-- the node of a cell, which heads its chain
+pub record CellNode (p : Plan) (W : World) (k : ℕ) : Type 0 where
+  pub rest : List Held
+  pub chain : W.chain k ≡ record { node = W.backup k / 2; words = W.node (W.backup k / 2) } ∷ rest
+  pub class : W.class (W.backup k / 2) ≡ Live k
+  pub is : IsNode p (record { node = W.backup k / 2; words = W.node (W.backup k / 2) })
+
+pub cell_node : (p : Plan) (W : World) (k : ℕ) → IsCell p W k → CellNode p W k
+cell_node p W k cell = go (W.chain k) refl
+  where
+    go : (l : List Held) → W.chain k ≡ l → CellNode p W k
+    go [] e = absurd (let z : 0 ≡ W.backup k / 2 + 1 = ap (λ l. link l 0) (sym e) ∙ cell.head in omega arith)
+    go (h ∷ r) e =
+        let z : suc h.node ≡ W.backup k / 2 + 1 = ap (λ l. link l 0) (sym e) ∙ cell.head in
+        let n : h.node ≡ W.backup k / 2 = omega arith in
+        let c = subst (λ l. Chained W (Live k) l 0) e cell.chained in
+        let w : h.words ≡ W.node (W.backup k / 2) = sym c.1 ∙ ap W.node n in
+        let same : h ≡ record { node = W.backup k / 2; words = W.node (W.backup k / 2) } = λ i. record { node = n i; words = w i } in record {
+          rest = r;
+          chain = e ∙ ap (λ (x : Held). x ∷ r) same;
+          class = ap W.class (sym n) ∙ c.0;
+          is = subst (IsNode p) same (cell.node 0 h (ap (λ l. get_elem? l 0) e));
+        }
+
+-- the node of a register's cell, with the register's record
+pub record RegisterNode (p : Plan) (W : World) (contents : Contents) (k : ℕ) : Type 0 where
+  pub chain : W.chain k ≡ register_chain (W.backup k / 2) (contents.registers k)
+  pub class : W.class (W.backup k / 2) ≡ Live k
+  pub words : W.node (W.backup k / 2) ≡ contents.registers k ++ 0 ∷ []
+  pub is : IsNode p (record { node = W.backup k / 2; words = contents.registers k ++ 0 ∷ [] })
+
+pub register_node : (p : Plan) (W : World) (k : ℕ) → k < p.registers → IsCell p W k → RegisterNode p W (state_at W.log (length W.log)) k
+register_node p W k inside cell =
+    let rec = (state_at W.log (length W.log)).registers k in
+    let e = one_node (W.chain k) (W.backup k / 2) rec cell.head (chained_linked W (Live k) (W.chain k) 0 cell.chained) (λ i h at. (cell.node i h at).wide)
+    (cell.records ∙ register_records p W.log k inside) cell.counted in
+    let c = subst (λ l. Chained W (Live k) l 0) e cell.chained in record {
+      chain = e;
+      class = c.0;
+      words = c.1;
+      is = cell.node 0 (record { node = W.backup k / 2; words = rec ++ 0 ∷ [] }) (ap (λ l. get_elem? l 0) e);
+    }
+
+-- the last look is this one
+pub look_now : (p : Plan) (backup : ℕ → ℕ) (log : List Entry) (k x : ℕ) → k < cells p → x / 2 < nodes p → backup k ≡ x → SeatLook p backup log log (Some (look_at k x (length log)))
+look_now p backup log k x inside there named = record {
+  is = λ l e. subst (IsLook p log) (one_look l e) (record { cell = inside; there = there; at = le_refl (length log) });
+  holds = λ l e. subst (LookHolds p backup log) (one_look l e) (record { same = λ _. ap (λ z. z / 2) named; falls = λ _. omega arith });
+}
+  where
+    one_look : (l : Look) → Some (look_at k x (length log)) ≡ Some l → look_at k x (length log) ≡ l
+    one_look l e = cc
+
+-- what is known of a seat's stock and of its stands, after more of the history is seen
+module _ {p : Plan} {W : World} {s : ℕ} {v : View} (ok : SeatOk p W s v) (rest es : List Entry) (more : es ≡ v.seen ++ rest) where
+  pub stock_seen : IsStock p (length v.numbers) es v.stands (length v.own + length v.retired) v.removes
+  stock_seen = subst (λ (l : List Entry). IsStock p (length v.numbers) l v.stands (length v.own + length v.retired) v.removes) (sym more)
+      (stock_more rest (λ i t e. (ok.lawful.right i t e).place) ok.stock)
+
+  pub lawful_seen : ((x : ℕ) → has v.numbers x ≡ true → NoneBy x rest) → Lawful p v.numbers es v.stands
+  lawful_seen none = subst (λ (l : List Entry). Lawful p v.numbers l v.stands) (sym more) (lawful_more rest none ok.lawful)
+
+  pub claims_seen : SeatClaims p W s v.numbers (number v) es v.claims
+  claims_seen = subst (λ (l : List Entry). SeatClaims p W s v.numbers (number v) l v.claims) (sym more) (claims_more rest ok.claims)
+
+module _ (m : Moment) (kind : Kind) (k : ℕ) (inside : k < cells m.view.plan) where
+  abbrev p : Plan
+  p = m.view.plan
+
+  abbrev v : View
+  v = m.view
+
+  abbrev log : List Entry
+  log = m.unwritten.log
+
+  abbrev x : ℕ
+  x = backup_word p m.ws k
+
+  abbrev pub seeing : View
+  seeing = looked_view kind k x log v
+
+  pub sees_seat : SeatOk p (world m) m.id seeing
+  sees_seat = let o = seat m in record {
+    plan = o.plan;
+    numbers = o.numbers;
+    nodes = o.nodes;
+    stock = stock_seen o o.seen.rest log o.seen.whole;
+    seen = record { rest = []; whole = sym (append-nil log); own = λ y has. tt };
+    earlier = goes_further v.earlier v.seen log o.seen.rest o.earlier o.seen.whole;
+    lawful = lawful_seen o o.seen.rest log o.seen.whole o.seen.own;
+    trail = trail_step log (counted kind x (length log)) o.trail (o.seen.rest, o.seen.whole) (le_refl (length log));
+    look = look_now p (world m).backup log k x inside (cell_node p (world m) k (m.rule.cells.cell k inside)).is.there refl;
+    claims = claims_seen o o.seen.rest log o.seen.whole;
+    scan = o.scan;
+  }
+
+  -- an entry on the cell since the last look at it, where another word was found there
+  pub sees_moved : (l : Look) → v.look ≡ Some l → l.cell ≡ k → x / 2 ≢ l.word / 2 → ¬ NoneOn p k (drop l.at log)
+  sees_moved l e on ne none = ne (ap (λ j. backup_word p m.ws j / 2) (sym on) ∙ ((seat m).look.holds l e).same (subst (λ j. NoneOn p j (drop l.at log)) (sym on) none))
+
+  -- and the mark at most cleared, where there is none
+  pub sees_falls : (l : Look) → v.look ≡ Some l → l.cell ≡ k → NoneOn p k (drop l.at log) → x ≤ l.word
+  sees_falls l e on none = subst (λ j. backup_word p m.ws j ≤ l.word) on (((seat m).look.holds l e).falls (subst (λ j. NoneOn p j (drop l.at log)) (sym on) none))
+
+  pub sees_told : Looks kind k x v seeing
+  sees_told = let o = seat m in record {
+    log = log;
+    after = refl;
+    rest = o.seen.rest;
+    seen = o.seen.whole;
+    moved = sees_moved;
+    falls = sees_falls;
+    calm = λ c n y e tells stands on same. subst (λ j. NoneOn p j (drop y.at log)) on (o.claims.calm c n y e tells stands (ap (λ j. backup_word p m.ws j / 2) on ∙ same));
+  }
+
+  pub sees : Made m m.ws seeing
+  sees = own_step m seeing sees_seat (le_refl v.changes)

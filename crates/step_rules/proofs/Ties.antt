@@ -1,0 +1,9 @@
+pub mod Joining
+pub mod Notes
+pub mod Owns
+pub mod Parting
+pub mod Pools
+pub mod Scanned
+pub mod Splitting
+pub mod Tied
+pub mod Winning

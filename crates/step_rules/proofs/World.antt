@@ -1,0 +1,10 @@
+pub mod Chains
+pub mod Contents
+pub mod EmptyBucket
+pub mod Exchanging
+pub mod Frames
+pub mod Handing
+pub mod Opens
+pub mod Registers
+pub mod Silent
+pub mod Sizes
