@@ -268,12 +268,12 @@ answered_now {reg = reg} {look = look} {q = q} {call = call} {reply = reply} {st
           plan = plan;
           numbers = numbers;
           changes = omega (arith, ap (λ (z : View). z.changes) view, ap (λ (z : View). z.changes) all.only);
-          removes = ap (λ (z : View). z.removes) view ∙ ap (λ (z : View). z.removes) all.only;
+          removes = omega (arith, ap (λ (z : View). z.removes) view, ap (λ (z : View). z.removes) all.only);
         };
         nodes = record {
           object = ap (λ (z : SeatData). z.object) is ∙ m.goes.object;
           first = ap (λ (z : SeatData). z.first) is ∙ m.goes.first;
-          even = balance (reading q call reply now.view) m.first last m.idle (ap (λ (z : SeatData). z.holding) is ∙ m.idle_now) stands goes_on plan numbers;
+          even = balance (reading q call reply now.view) m.first last stands goes_on plan numbers m.idle (ap (λ (z : SeatData). z.holding) is ∙ m.idle_now);
         };
         paid = subst (λ (l : List Entry). TurnsArePaid before.view.plan reg (number before.view) l None (steps ++ clear)) (sym seen) all.paid;
         few = subst (λ (l : List Entry). lost_steps (steps ++ clear) ≤ changes_on before.view.plan reg (number before.view) (drop look l)) (sym seen) looks.few;

@@ -1,4 +1,4 @@
--- A seat's nodes before and after one more stand.
+-- A seat's nodes and removes before and after one more stand.
 use Rattle.std.proofs.Common.{◌≡◌, ◌∙◌, ℕ, ◌+◌, Bool, true, false, cond, List, [], ◌∷◌, ◌++◌, length, refl, sym, ap, subst, arith}
 use Rattle.std.proofs.lemmas.List.Sums.{sum_by_push}
 use Rattle.big_atomic.specs.Calls.{Answered, NodesStay}
@@ -9,36 +9,47 @@ use Rattle.step_rules.proofs.Line.Stocks.{stock_more}
 use Rattle.step_rules.specs.History.{GoesOn}
 use Rattle.step_rules.specs.Records.{cost_at, cost_of, edit_of, found_at, gain_at, gain_of}
 use Rattle.step_rules.specs.SeatData.{IsSeat, SeatData}
-use Rattle.step_rules.specs.Stock.{IsStock, stand_cost, stand_gain}
+use Rattle.step_rules.specs.Stock.{IsStock, stand_cost, stand_gain, stand_removes}
 use Rattle.step_rules.specs.declared.plan.Plan.{Plan}
 use Rattle.step_rules.specs.declared.view.Stand.{Stand}
 use Rattle.step_rules.specs.declared.view.View.{View}
 
--- they are even at both, so the stand alone tells them apart
-pub balance : (stand : Stand) {before after : SeatData} → IsSeat before → IsSeat after → before.holding ≡ [] → after.holding ≡ []
-    → after.view.stands ≡ before.view.stands ++ stand ∷ [] → GoesOn before.view.seen after.view.seen → after.view.plan ≡ before.view.plan → after.view.numbers ≡ before.view.numbers
-    → length after.free + length after.view.retired + stand_cost after.view.plan after.view.seen stand
-    ≡ length before.free + length before.view.retired + stand_gain after.view.plan after.view.seen stand
-balance stand {before} {after} first last idle idle_now stands seen plan numbers =
-    let v : View = before.view in
-    let w : View = after.view in
-    let k : IsStock w.plan (length w.numbers) w.seen v.stands (length v.own + length v.retired) v.removes =
-    subst (λ (z : Plan × List ℕ × List Entry). IsStock z.0 (length z.1) z.2 v.stands (length v.own + length v.retired) v.removes)
-    (λ i. (sym plan i, sym numbers i, sym seen.1 i))
-    (stock_more seen.0 (λ i s at. (first.sound.lawful.right i s at).place) first.sound.stock) in
-    let l : IsStock w.plan (length w.numbers) w.seen (v.stands ++ stand ∷ []) (length w.own + length w.retired) w.removes =
-    subst (λ (ss : List Stand). IsStock w.plan (length w.numbers) w.seen ss (length w.own + length w.retired) w.removes) stands last.sound.stock in
-    let was_even = k.even in
-    let is_even = l.even in
-    let a = first.long in
-    let b = last.long in
-    omega (
-      arith,
-      sum_by_push (stand_cost w.plan w.seen) v.stands stand,
-      sum_by_push (stand_gain w.plan w.seen) v.stands stand,
-      ap (length {A = ℕ}) idle,
-      ap (length {A = ℕ}) idle_now,
-    )
+-- what its nodes and removes came from holds at both, so the stand alone tells them apart
+module _ (stand : Stand) {before after : SeatData} (first : IsSeat before) (last : IsSeat after) (stands : after.view.stands ≡ before.view.stands ++ stand ∷ [])
+    (seen : GoesOn before.view.seen after.view.seen) (plan : after.view.plan ≡ before.view.plan) (numbers : after.view.numbers ≡ before.view.numbers) where
+  abbrev v : View
+  v = before.view
+
+  abbrev w : View
+  w = after.view
+
+  was : IsStock w.plan (length w.numbers) w.seen v.stands (length v.own + length v.retired) v.removes
+  was = subst (λ (z : Plan × List ℕ × List Entry). IsStock z.0 (length z.1) z.2 v.stands (length v.own + length v.retired) v.removes)
+      (λ i. (sym plan i, sym numbers i, sym seen.1 i))
+      (stock_more seen.0 (λ i s at. (first.sound.lawful.right i s at).place) first.sound.stock)
+
+  is_now : IsStock w.plan (length w.numbers) w.seen (v.stands ++ stand ∷ []) (length w.own + length w.retired) w.removes
+  is_now = subst (λ (ss : List Stand). IsStock w.plan (length w.numbers) w.seen ss (length w.own + length w.retired) w.removes) stands last.sound.stock
+
+  pub balance : before.holding ≡ [] → after.holding ≡ []
+      → length after.free + length w.retired + stand_cost w.plan w.seen stand ≡ length before.free + length v.retired + stand_gain w.plan w.seen stand
+  balance idle idle_now =
+      let was_even = was.even in
+      let is_even = is_now.even in
+      let a = first.long in
+      let b = last.long in
+      omega (
+        arith,
+        sum_by_push (stand_cost w.plan w.seen) v.stands stand,
+        sum_by_push (stand_gain w.plan w.seen) v.stands stand,
+        ap (length {A = ℕ}) idle,
+        ap (length {A = ℕ}) idle_now,
+      )
+
+  pub removes_spent : w.removes + stand_removes stand ≡ v.removes
+  removes_spent =
+      let before_it = was.removed in
+      let with_it = is_now.removed in omega (arith, sum_by_push stand_removes v.stands stand)
 
 -- the call costs its seat no node and gives it none, whatever its cell has
 abbrev pub CostsNone : Call → Type 0

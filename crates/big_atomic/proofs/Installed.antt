@@ -26,7 +26,7 @@ use Rattle.step_rules.specs.Bags.{times}
 use Rattle.step_rules.specs.Claims.{BACK, HOLD, OWN, On, WALK}
 use Rattle.step_rules.specs.History.{cell_of}
 use Rattle.step_rules.specs.Kinds.Backup.{MayExchange}
-use Rattle.step_rules.specs.Records.{dropped_count, edit_of, need, records_at, records_of, removes_of}
+use Rattle.step_rules.specs.Records.{dropped_count, edit_of, need, records_at, records_of}
 use Rattle.step_rules.specs.SeatData.{IsOf, IsSeat, ObjectData, SeatData}
 use Rattle.step_rules.specs.Sound.{Sound}
 use Rattle.step_rules.specs.Steps.{DropsNoted, HoldsFront, MayClaim}
@@ -186,7 +186,6 @@ pub record EndsChange (shared : ObjectData) (cell seen node : ℕ) (call : Call)
   pub left : 0 < before.view.changes
   pub on : cell_of before.view.plan call ≡ cell
   pub keeps : (c : Contents) (held : Option (List ℕ)) → held_after c held call ≡ held
-  pub spares : removes_of call ≡ 0
   pub calling : Calling cell steps look before now
   pub installed : HasInstalled cell seen node call now after
   pub walk : ClearsWalk after walked
@@ -222,7 +221,6 @@ module _ {shared : ObjectData} {cell seen node : ℕ} {call : Call} {steps : Lis
     left = e.left;
     on = e.on;
     keeps = e.keeps;
-    spares = e.spares;
   }
 
   -- the claim words but Hold's are 0

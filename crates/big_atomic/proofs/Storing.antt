@@ -40,7 +40,7 @@ pub store_won : {shared : ObjectData} {reg word node look : ℕ} {rec new : List
     → Trying shared reg word node rec new steps look before now → HasWon reg word node (Store reg new) now after → EndsClaims after final → IsSeat final
     → IsStored reg new StoreDone before final × IsReady shared final
 store_won {reg} {new} {steps} {before} t won ended last =
-    let w = won_call t won ended last refl (λ c held. refl) refl in
+    let w = won_call t won ended last refl (λ c held. refl) in
     let a = answered_won w (won_reply w (store_replies reg new)) in (
       record {
         answered = a.0;

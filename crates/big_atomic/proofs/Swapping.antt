@@ -113,7 +113,7 @@ pub swap_won : {shared : ObjectData} {reg word node look : ℕ} {old new : List 
     → Trying shared reg word node old new steps look before now → HasWon reg word node (Swap reg old new) now after → EndsClaims after final → IsSeat final
     → Costs 0 0 (2 * WIDTH + 8 + 4 * before.view.plan.seats) steps → IsSwapped reg old new SwapYes before final × IsReady shared final
 swap_won {reg} {old} {new} {steps} {before} t won ended last costs =
-    let w = won_call t won ended last refl (λ c held. refl) refl in
+    let w = won_call t won ended last refl (λ c held. refl) in
     let a = answered_won w (won_reply w (swap_replies reg old new)) in
     let all = all_steps w in
     let spent : SwapCosts before a.0.steps =

@@ -27,7 +27,6 @@ use Rattle.step_rules.specs.Claims.{BACK, HOLD, OWN, On, WALK}
 use Rattle.step_rules.specs.History.{IsWide, cell_of, IsThere}
 use Rattle.step_rules.specs.Kinds.Backup.{MayExchange}
 use Rattle.step_rules.specs.Lawful.{IsRight}
-use Rattle.step_rules.specs.Records.{removes_of}
 use Rattle.step_rules.specs.SeatData.{IsOf, IsSeat, ObjectData, SeatData}
 use Rattle.step_rules.specs.Views.{claim_of, look_at, silent, reading}
 use Rattle.step_rules.specs.declared.plan.Plan.{Plan}
@@ -155,9 +154,9 @@ swap_replies reg old new c held changes = ap (λ (b : Bool). cond b Yes No) (and
 -- the exchange won
 pub won_call : {shared : ObjectData} {reg word node look : ℕ} {rec new : List ℕ} {call : Call} {steps : List Counted} {before now after final : SeatData}
     → Trying shared reg word node rec new steps look before now → HasWon reg word node call now after → EndsClaims after final → IsSeat final
-    → cell_of before.view.plan call ≡ reg → ((c : Contents) (held : Option (List ℕ)) → held_after c held call ≡ held) → removes_of call ≡ 0
+    → cell_of before.view.plan call ≡ reg → ((c : Contents) (held : Option (List ℕ)) → held_after c held call ≡ held)
     → WonCall reg word node call steps (both_steps after) look before now after final
-won_call {after = after} {final = final} t won ended last on keeps spares = record {
+won_call {after = after} {final = final} t won ended last on keeps = record {
   calling = t.changing.calling;
   won = won;
   ended = ends_both after final ended;
@@ -167,7 +166,6 @@ won_call {after = after} {final = final} t won ended last on keeps spares = reco
   left = t.changing.began.left;
   on = on;
   keeps = keeps;
-  spares = spares;
 }
 
 -- and the seat is ready

@@ -7,7 +7,7 @@ use Rattle.std.proofs.lemmas.List.{take-append-le}
 use mathlib.Core.Option.{some}
 use lib.ListN.{get_elem?}
 use Rattle.big_atomic.proofs.Answered.{HasAnswered, ready_after}
-use Rattle.big_atomic.proofs.Balance.{balance}
+use Rattle.big_atomic.proofs.Balance.{balance, removes_spent}
 use Rattle.big_atomic.proofs.Ending.{EndsBy}
 use Rattle.big_atomic.proofs.Goings.{calling_then, drop_parts, held_stays, looked_more}
 use Rattle.big_atomic.proofs.Paid.{changes-append, exchanges-append, lost-append, scan_loads-append, paid_kept, paid_more, paid_still, paid_then, saw_within, still_exchanges, still_lost}
@@ -32,7 +32,7 @@ use Rattle.step_rules.specs.Claims.{BACK, HOLD, On, OWN, WALK}
 use Rattle.step_rules.specs.History.{GoesOn, cell_of}
 use Rattle.step_rules.specs.Kinds.Standing.{first_look}
 use Rattle.step_rules.specs.Lawful.{IsRight, held_by, is_full}
-use Rattle.step_rules.specs.Records.{records_at, records_of, removes_of}
+use Rattle.step_rules.specs.Records.{records_at, records_of}
 use Rattle.step_rules.specs.SeatData.{IsSeat, ObjectData, SeatData}
 use Rattle.step_rules.specs.Views.{changing, claim_of, claimed_records, counted, entry, number, silent, won_view}
 use Rattle.step_rules.specs.declared.view.Claim.{Claim}
@@ -52,7 +52,6 @@ pub record WonCall (k word node : ℕ) (call : Call) (steps clears : List Counte
   pub left : 0 < before.view.changes
   pub on : cell_of before.view.plan call ≡ k
   pub keeps : (c : Contents) (held : Option (List ℕ)) → held_after c held call ≡ held
-  pub spares : removes_of call ≡ 0
 
 at_seam : {A : Type 0} (l : List A) (a : A) → get_elem? (l ++ a ∷ []) (length l) ≡ some a
 at_seam [] a = refl
@@ -129,8 +128,8 @@ module _ {k word node : ℕ} {call : Call} {steps clears : List Counted} {look :
   number_same : number mid.view ≡ number before.view
   number_same = ap (λ (z : View). number z) calling.goes.only
 
-  final_plan : final.view.plan ≡ before.view.plan
-  final_plan = ap (λ (z : View). z.plan) final_view ∙ plan_same
+  pub won_plan : final.view.plan ≡ before.view.plan
+  won_plan = ap (λ (z : View). z.plan) final_view ∙ plan_same
 
   final_numbers : final.view.numbers ≡ before.view.numbers
   final_numbers = ap (λ (z : View). z.numbers) final_view ∙ ap (λ (z : View). z.numbers) calling.goes.only
@@ -148,16 +147,22 @@ module _ {k word node : ℕ} {call : Call} {steps clears : List Counted} {look :
       let at = w.last.sound.lawful.right (length before.view.stands) stand there in
       subst (λ (s : List Stand). IsRight final.view.plan final.view.seen s stand) (ap (take (length before.view.stands)) stands_are ∙ take-append_seam before.view.stands (stand ∷ [])) at
 
-  -- the call changes the contents at its place
+  -- the contents at its place are those that it found
+  won_state : state_at final.view.seen (length log) ≡ state_at log (length log)
+  won_state = ap (λ (l : List Entry). state_at l (length log)) seen_is ∙ state_at-append log (entry (number mid.view) call ∷ []) (length log) (omega arith)
+
+  -- which it changes
   pub won_changes : is_change (state_at log (length log)) call ≡ true
-  won_changes =
-      let same : state_at final.view.seen (length log) ≡ state_at log (length log) =
-      ap (λ (l : List Entry). state_at l (length log)) seen_is ∙ state_at-append log (entry (number mid.view) call ∷ []) (length log) (omega arith) in
-      ap (λ (c : Contents). is_change c call) (sym same) ∙ (and_parts (is_change (state_at final.view.seen (length log)) call) (not (is_full stand.reply)) (sym right.changes)).0
+  won_changes = ap (λ (c : Contents). is_change c call) (sym won_state) ∙ (and_parts (is_change (state_at final.view.seen (length log)) call) (not (is_full stand.reply)) (sym right.changes)).0
 
   -- so its reply is what it is wherever it changes them
   pub won_reply : {told : Reply} → ((c : Contents) (held : Option (List ℕ)) → is_change c call ≡ true → reply_to c held call ≡ told) → stand.reply ≡ told
   won_reply replies = replies (state_at log (length log)) (held_by log (number mid.view) mid.view.stands) won_changes
+
+  -- or what it is on the contents at its place, whatever the caller holds
+  pub won_told : {told : Reply} → ((held : Option (List ℕ)) → reply_to (state_at final.view.seen (length log)) held call ≡ told) → stand.reply ≡ told
+  won_told replies =
+      let held : Option (List ℕ) = held_by log (number mid.view) mid.view.stands in ap (λ (c : Contents). reply_to c held call) (sym won_state) ∙ replies held
 
   -- and the cell had the claimed records there
   pub won_records : {n : ℕ} → On (claim_of BACK now.view) n → (claim_of BACK now.view).cell ≡ k → records_at final.view.plan (take stand.place final.view.seen) k ≡ claimed_records now.view
@@ -227,15 +232,15 @@ module _ {k word node : ℕ} {call : Call} {steps clears : List Counted} {look :
         history = w.last.sound.history;
         seen = seen_on;
         within = let within = w.last.sound.within in omega arith;
-        plan = final_plan;
+        plan = won_plan;
         numbers = final_numbers;
         changes = let left = w.left in omega (arith, ap (λ (z : View). z.changes) final_view, ap (λ (z : View). z.changes) calling.goes.only);
-        removes = let none = w.spares in omega (arith, ap (λ (z : View). z.removes) final_view, ap (λ (z : View). z.removes) calling.goes.only);
+        removes = removes_spent stand w.first w.last stands_are seen_on won_plan final_numbers;
       };
       nodes = record {
         object = w.ended.object ∙ (ap (λ (z : SeatData). z.object) w.won.won.same ∙ calling.goes.object);
         first = w.ended.first ∙ (ap (λ (z : SeatData). z.first) w.won.won.same ∙ calling.goes.first);
-        even = balance stand w.first w.last w.idle won_holding stands_are seen_on final_plan final_numbers;
+        even = balance stand w.first w.last stands_are seen_on won_plan final_numbers w.idle won_holding;
       };
       paid = paid;
       few = few;
@@ -255,7 +260,7 @@ module _ {k word node : ℕ} {call : Call} {steps clears : List Counted} {look :
   won_ready shared ready back walk own = ready_after shared before final ready
       (record {
         object = w.ended.object ∙ (ap (λ (z : SeatData). z.object) w.won.won.same ∙ (calling.goes.object ∙ ready.ours.object));
-        plan = final_plan ∙ ready.ours.plan;
+        plan = won_plan ∙ ready.ours.plan;
       })
       w.last won_holding back walk own won_stays
 

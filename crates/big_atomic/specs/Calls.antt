@@ -1,5 +1,5 @@
 -- What the calls on registers promise.
-use Rattle.std.specs.Prelude.{◌≡◌, ◌≢◌, ℕ, ◌+◌, ◌*◌, ◌<◌, ◌≤◌, ◌⊎◌, true, false, List, [], ◌∷◌, ◌++◌, None, length, filter, drop}
+use Rattle.std.specs.Prelude.{◌≡◌, ◌≢◌, ℕ, ◌+◌, ◌*◌, ◌<◌, ◌≤◌, ◌⊎◌, Bool, true, false, List, [], ◌∷◌, ◌++◌, None, length, filter, drop}
 use Rattle.big_atomic.specs.Turns.{TurnsArePaid, changes_on, exchanges, lost_steps, scan_loads}
 use Rattle.big_atomic.specs.declared.answers.Stored.{Stored}
 use Rattle.big_atomic.specs.declared.answers.Stored.TheVariants.{Done as StoreDone, Full as StoreFull}
@@ -107,6 +107,11 @@ abbrev pub swap_reply : Answer → Reply
 swap_reply SwapYes = Yes
 swap_reply SwapNo = No
 swap_reply (SwapFull need free) = Full need free
+
+-- the answer is Yes
+abbrev pub says_yes : Answer → Bool
+says_yes SwapYes = true
+says_yes _ = false
 
 -- the first place, from a look on, at which the register isn't old
 pub record IsFirstUnlike (reg : ℕ) (old : List ℕ) (look place : ℕ) (w : View) : Type 0 where

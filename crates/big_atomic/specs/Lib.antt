@@ -3,5 +3,7 @@ pub mod Calls
 pub mod Installing
 pub mod Lines
 pub mod Ready
+pub mod Registers
 pub mod Seats
+pub mod Stands
 pub mod Turns

@@ -25,10 +25,25 @@ pub record IsQuietOf (shared : ObjectData) (seat : SeatData) : Type 0 where
   pub ours : IsOf shared seat
   pub quiet : is_quiet seat ≡ true
 
+-- the first of these seats is the one that takes in others
+abbrev pub AreLed : List SeatData → Type 0
+AreLed [] = ⊥
+AreLed (seat ∷ later) = seat.first ≡ true
+
+-- a seat keeps its numbers, and whether it takes in others
+pub record Stays (before after : SeatData) : Type 0 where
+  pub numbers : after.view.numbers ≡ before.view.numbers
+  pub first : after.first ≡ before.first
+
 -- the numbers of all seats, one seat's after the other's
 abbrev pub all_numbers : List SeatData → List ℕ
 all_numbers [] = []
 all_numbers (s ∷ r) = s.view.numbers ++ all_numbers r
+
+-- these seats were given away, and came back with their numbers; the first of them takes in others where it did
+pub record AreBack (given back : List SeatData) : Type 0 where
+  pub numbers : all_numbers back ≡ all_numbers given
+  pub led : AreLed given → AreLed back
 
 -- the stands of all seats, one seat's after the other's
 abbrev pub all_stands : List SeatData → List Stand

@@ -18,6 +18,21 @@ pub enum Swap {
     Full { need: u32, free: u32 },
 }
 
+impl Swap {
+    ghost use Rattle.std.specs.Prelude.{◌≡◌};
+    ghost use Rattle.big_atomic.specs.Calls.{says_yes};
+
+    /// Whether the swap was made.
+    pub fn is_yes(self) -> bool
+        ensures { result ≡ says_yes self }
+    {
+        match self {
+            Swap::Yes => true,
+            _ => false,
+        }
+    }
+}
+
 /// What an install answers.
 #[derive(Clone, Copy, Debug, Drop, PartialEq, Eq)]
 pub enum Install {

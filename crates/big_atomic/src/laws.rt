@@ -1,6 +1,11 @@
-// When a seat is ready, and how a closed object's line counts. A law is a function with nothing to do.
-ghost use Rattle.std.specs.Prelude.{◌≡◌, Bool, count_by, false, true};
+// When a seat is ready, what a missed swap has seen, and what a closed object has in it. A law is a
+// function with nothing to do.
+ghost use Rattle.std.specs.Prelude.{◌≡◌, All, Bool, List, ℕ, count_by, false, true};
+ghost use Rattle.big_atomic.specs.Calls.{IsLoaded, IsSwapped};
 ghost use Rattle.big_atomic.specs.Ready.{IsReady};
+ghost use Rattle.big_atomic.specs.Registers.{CountsUp, FitsBlank, GivesFitting, HasCounted, HasFitting};
+ghost use Rattle.big_atomic.specs.Stands.{HasSeenMore};
+ghost use Rattle.big_atomic.specs.declared.answers.Swap.TheVariants.{No as SwapNo};
 ghost use Rattle.step_rules.specs.Closing.{ClosedData, IsClosed};
 ghost use Rattle.step_rules.specs.Line.{line_of};
 ghost use Rattle.step_rules.specs.SeatData.{IsOf, IsSeat, ObjectData, SeatData, holds_record, is_quiet};
@@ -25,4 +30,23 @@ pub fn ready_is_quiet()
 pub fn line_counts()
     ensures { (test : Stand → Bool) (seat : SeatData) (closed : ClosedData) → IsSeat seat → IsClosed seat closed
         → count_by test (line_of closed.plan.seats closed.history closed.stands) ≡ count_by test closed.stands }
+{}
+
+/// A swap that is answered No after a load of its old record has seen more of the history, so that a
+/// caller that tries again ends.
+pub fn missed_has_seen_more()
+    ensures { (shared : ObjectData) (reg : ℕ) (old new : List ℕ) (before loaded after : SeatData) → IsOf shared before
+        → IsLoaded reg old before loaded → IsSwapped reg old new SwapNo loaded after → HasSeenMore shared before after }
+{}
+
+/// Where each call gives its register a record that fits, no other was read, and none is left.
+pub fn records_fit()
+    ensures { (fits : ℕ → List ℕ → Bool) (may_hold : List ℕ → Bool) → FitsBlank fits may_hold → (seat : SeatData) (closed : ClosedData)
+        → IsSeat seat → IsClosed seat closed → All (λ s. GivesFitting fits may_hold s.call) closed.stands → HasFitting fits may_hold closed }
+{}
+
+/// Where a register is only counted up by swaps, its number is how many of them were answered Yes.
+pub fn register_counts()
+    ensures { (reg : ℕ) (number : List ℕ → ℕ) (seat : SeatData) (closed : ClosedData) → IsSeat seat → IsClosed seat closed
+        → All (λ s. CountsUp reg number s.call) closed.stands → HasCounted reg number closed }
 {}

@@ -20,7 +20,10 @@ pub use answers::{Install, Stored, Swap};
 pub use claiming::claim_node;
 pub use holds::{hold, look, release_hold};
 pub use installs::install;
-pub use laws::{fresh_is_ready, line_counts, quiet_is_ready, ready_is_quiet};
+pub use laws::{
+    fresh_is_ready, line_counts, missed_has_seen_more, quiet_is_ready, ready_is_quiet, records_fit,
+    register_counts,
+};
 pub use loads::load;
 pub use seats::{join_all, split_all};
 pub use stores::store;

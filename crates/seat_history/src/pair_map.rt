@@ -1,7 +1,7 @@
-ghost use Rattle.std.specs.Prelude.{◌≡◌, IfOk, OnOk, Some, None, ℕ};
+ghost use Rattle.std.specs.Prelude.{◌≡◌, All, IfOk, OnOk, Some, None, ℕ};
 ghost use Rattle.seat_history.specs.Contents.{set_at};
 ghost use Rattle.seat_history.specs.Key.{key_number};
-ghost use Rattle.seat_history.specs.Pairs.{ArePairsOf};
+ghost use Rattle.seat_history.specs.Pairs.{ArePairsOf, IsPairInRange};
 ghost use Rattle.seat_history.specs.Plain.{found_in};
 
 use crate::key::KeyWords;
@@ -38,7 +38,8 @@ impl PairMap {
 
     /// The pairs, by rising key.
     pub fn pairs(&self, alloc: Global) -> Result<PairList, NoMemory>
-        ensures { IfOk result (λ pairs. ArePairsOf (found_in self.now) pairs) }
+        ensures pairs { IfOk result (λ pairs. ArePairsOf (found_in self.now) pairs) }
+        ensures in_range { IfOk result (λ pairs. All IsPairInRange pairs) }
     {
         Ok(PairList::of_vec(pairs_of(alloc, &self.map)?))
     }

@@ -4,6 +4,7 @@ pub mod Claims
 pub mod Closing
 pub mod Fronts
 pub mod History
+pub mod Holding
 pub mod Kinds
 pub mod Lawful
 pub mod Layout

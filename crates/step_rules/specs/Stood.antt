@@ -5,6 +5,7 @@ use Rattle.seat_history.specs.declared.reply.Reply.{Reply}
 use Rattle.step_rules.specs.History.{GoesOn, IsHistory, cell_of}
 use Rattle.step_rules.specs.Kinds.Standing.{first_look}
 use Rattle.step_rules.specs.Lawful.{IsRight, Lawful}
+use Rattle.step_rules.specs.Stock.{stand_removes}
 use Rattle.step_rules.specs.Views.{number, stock}
 use Rattle.step_rules.specs.declared.view.Counted.{Counted}
 use Rattle.step_rules.specs.declared.view.Stand.{Stand}
@@ -36,9 +37,9 @@ pub record Stood (asked : Call) (told : Reply) (stand : Stand) (steps : List Cou
   pub within : length w.seen ≤ w.plan.seats * w.plan.changes
   pub plan : w.plan ≡ v.plan
   pub numbers : w.numbers ≡ v.numbers
-  -- one change is spent exactly where the stand changes
+  -- one change is spent exactly where the stand changes, and one remove where it takes a key out
   pub changes : w.changes + spent stand ≡ v.changes
-  pub removes : w.removes ≡ v.removes
+  pub removes : w.removes + stand_removes stand ≡ v.removes
 
 -- a look at the held record, or its release, was answered: no cell is looked at
 pub record StoodStill (asked : Call) (told : Reply) (stand : Stand) (steps : List Counted) (v w : View) : Type 0 where

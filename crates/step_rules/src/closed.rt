@@ -1,6 +1,6 @@
-ghost use Rattle.std.specs.Prelude.{◌≡◌, ◌<◌, IfOk, true, length};
+ghost use Rattle.std.specs.Prelude.{◌≡◌, ◌<◌, All, IfOk, true, length};
 ghost use Rattle.seat_history.specs.History.{state_at};
-ghost use Rattle.seat_history.specs.Pairs.{ArePairsOf};
+ghost use Rattle.seat_history.specs.Pairs.{ArePairsOf, IsPairInRange};
 ghost use Rattle.step_rules.specs.Closing.{IsClosed, live_nodes};
 ghost use Rattle.step_rules.specs.Layout.{nodes};
 ghost use Rattle.step_rules.specs.SeatData.{IsOf, IsSeat, is_quiet};
@@ -74,7 +74,8 @@ impl Closed {
 
     /// The pairs after the whole history, by rising key.
     pub fn pairs(&self, alloc: Global) -> Result<PairList, NoMemory>
-        ensures { IfOk result (λ pairs. ArePairsOf (state_at self.now.history (length self.now.history)).values pairs) }
+        ensures pairs { IfOk result (λ pairs. ArePairsOf (state_at self.now.history (length self.now.history)).values pairs) }
+        ensures in_range { IfOk result (λ pairs. All IsPairInRange pairs) }
     {
         let nodes = self.nodes();
         let mut map = PairMap::new(alloc);

@@ -80,7 +80,7 @@ closes p s id v r at all = record {
   history = history;
   callers = callers;
   lawful = ok.lawful;
-  line = in_one_line p v.numbers v.seen v.stands history ok.lawful callers ok.numbers.below;
+  line = in_one_line p v.numbers v.seen v.stands history ok.lawful callers;
 }
   where
     ok : SeatOk p (world_of p s.words r.unwritten) id v

@@ -211,6 +211,27 @@ unfolding chain_nodes
 chain_buckets p log zero = let e : p.registers + 0 ≡ p.registers = omega arith in omega (arith, ap (chain_nodes p log) e, chain_registers p log p.registers (omega arith))
 chain_buckets p log (suc n) = let e : p.registers + suc n ≡ suc (p.registers + n) = omega arith in omega (arith, ap (chain_nodes p log) e, chain_buckets p log n)
 
+-- the nodes in cells at the start, and after one more change
+pub live_first : (p : Plan) → live_nodes p [] ≡ cells p
+live_first p = omega (arith, chain_first p (cells p), chain_buckets p [] p.buckets)
+
+pub live_next : (p : Plan) (log : List Entry) (e : Entry) → IsThere p e.call → EachThere p log → is_change (state_at log (length log)) e.call ≡ true
+    → live_nodes p (log ++ e ∷ []) + gain_at p log (length log) e.call ≡ live_nodes p log + cost_at p log (length log) e.call
+live_next p log e there each changes =
+    let whole = take_all (length log) log (omega arith) in
+    let cost : cost_at p log (length log) e.call ≡ cost_of (length (records_at p log (cell_of p e.call))) (edit_of (records_at p log (cell_of p e.call)) e.call)
+    = ap (λ (l : List Entry). cost_of (length (records_at p l (cell_of p e.call))) (edit_of (records_at p l (cell_of p e.call)) e.call)) whole in
+    let gain : gain_at p log (length log) e.call ≡ gain_of (length (records_at p log (cell_of p e.call))) (edit_of (records_at p log (cell_of p e.call)) e.call)
+    = ap (λ (l : List Entry). gain_of (length (records_at p l (cell_of p e.call))) (edit_of (records_at p l (cell_of p e.call)) e.call)) whole in
+    omega (
+      arith,
+      cost,
+      gain,
+      chain_next p log e (cells p) there each (sym (change_in p log e.call there each) ∙ changes) (change_cell p (state_at log (length log)) e.call there changes),
+      chain_buckets p log p.buckets,
+      chain_buckets p (log ++ e ∷ []) p.buckets,
+    )
+
 stand_costs : (p : Plan) (seen : List Entry) (s : Stand) → (s.changes ≡ true → get_elem? seen s.place ≡ some (entry_of s)) → stand_cost p seen s ≡ below (cost_to p seen) (length seen) s
 unfolding below cost_to call_at
 stand_costs p seen s told = either_part s.changes 0 (λ changes.

@@ -178,7 +178,7 @@ is_reply : (plan : Plan) (stock : ℕ) (c : Contents) (log : List Entry) (held :
 is_reply plan stock c log held call (Full need free) e other = absurd (other need free refl)
 is_reply plan stock c log held call _ e other = e
 
-not_full : (reply : Reply) → ((need free : ℕ) → reply ≢ Full need free) → is_full reply ≡ false
+pub not_full : (reply : Reply) → ((need free : ℕ) → reply ≢ Full need free) → is_full reply ≡ false
 not_full (Full need free) other = absurd (other need free refl)
 not_full _ other = refl
 

@@ -234,11 +234,18 @@ held_else : (object : Object) (e : Entry) (x : ℕ) (f : Bool) → e.caller ≢ 
 held_else object e x true ne = refl
 held_else object e x false ne = ap (λ b. cond b (held_after object.contents (object.held e.caller) e.call) (object.held x)) (ne_eqb e.caller x ne)
 
+-- each stand of the line is its caller's of the plan, after as many changes as its place says, and tells whether it is one itself
+abbrev pub Tells : Plan → List Entry → Object → List Entry → List Stand → Type 0
+Tells plan history object log [] = log ≡ history
+Tells plan history object log (s ∷ r) = (s.by < plan.seats) × (log ≡ take s.place history) × (s.changes ≡ (is_change object.contents s.call && not (is_full s.reply)))
+    × Tells plan history (after_stand object s) (log_after log object s) r
+
 replay : (plan : Plan) (history : List Entry) (q : ℕ) (object : Object) (log : List Entry) (line : List Stand) → object.contents ≡ state_at history q → log ≡ take q history
     → InPlace plan.seats history q line
     → ((x : ℕ) → x < plan.seats → Called plan history (object.held x) (stands_by x line))
-    → Replays plan object log line × ((after_stands object line).contents ≡ state_at history (length history))
-replay plan history q object log [] same logged place called = (tt, same ∙ ap (state_at history) place)
+    → Replays plan object log line × ((after_stands object line).contents ≡ state_at history (length history)) × Tells plan history object log line
+replay plan history q object log [] same logged place called =
+    (tt, same ∙ ap (state_at history) place, logged ∙ (ap (λ n. take n history) place ∙ take_all (length history) history (omega arith)))
 replay plan history q object log (s ∷ r) same logged place called =
     let own : Good plan history (object.held s.by) s × Called plan history (held_after (state_at history s.place) (object.held s.by) s.call) (stands_by s.by r)
     = subst (λ b. Called plan history (object.held s.by) (cond b (s ∷ stands_by s.by r) (stands_by s.by r))) (eq-eqb s.by s.by refl) (called s.by place.0) in
@@ -259,7 +266,7 @@ replay plan history q object log (s ∷ r) same logged place called =
     (λ ne. subst (λ (h : Option (List ℕ)). Called plan history h (stands_by x r)) (sym (held_else object (entry_of s) x (is_full s.reply) ne))
     (subst (λ b. Called plan history (object.held x) (cond b (s ∷ stands_by x r) (stands_by x r))) (ne_eqb s.by x ne) (called x l)))
     (cases_eq s.by x)) in
-    ((reply, rest.0), rest.1)
+    ((reply, rest.0), rest.1, (place.0, there, sym flag, rest.2))
 
 -- readings at a place, before what else stands from it on
 still_first : (seats : ℕ) (history : List Entry) (q : ℕ) (front rest : List Stand) → Each (λ (s : Stand). (s.by < seats) × (s.place ≡ q) × (s.changes ≡ false)) front
@@ -313,24 +320,30 @@ one_each p numbers history stands is lawful all q l =
     (lawful.made e.0.caller (all e.0.caller caller)) in
     (f.0, f.1, f.2, f.3, subst (λ n. n < p.seats) (sym f.4) caller)
 
-pub in_one_line : (p : Plan) (numbers : List ℕ) (history : List Entry) (stands : List Stand) → IsHistory p history → Lawful p numbers history stands
-    → ((x : ℕ) → x < p.seats → has numbers x ≡ true) → ((x : ℕ) → has numbers x ≡ true → x < p.seats) → InOneLine p history stands
-in_one_line p numbers history stands is lawful all inside =
-    let rising : Pairs Below stands = pairs_from Below stands lawful.rising in
-    let within : Each (Within history) stands = each_from (Within history) stands
-    (λ i s at. ((lawful.right i s at).place, λ c. at_below history s.place (entry_of s) ((lawful.right i s at).entry c))) in
-    let order : (x : ℕ) → x < p.seats → stands_by x (line_of p.seats history stands) ≡ stands_by x stands = λ x l. by_whole p.seats x history stands l rising within in
-    let one : OneEach p.seats history stands = one_each p numbers history stands is lawful all in
-    let called : (x : ℕ) → x < p.seats → Called p history None (stands_by x (line_of p.seats history stands)) = λ x l.
-    subst (λ (z : List Stand). Called p history None z) (sym (order x l)) (called_by p history x None stands (λ i s at by.
-    let right = lawful.right i s at in
-    record {
-      reply = subst (λ n. IsReply p s.stock (state_at history s.place) (take s.place history) (held_by history n (take i stands)) s.call s.reply) by right.reply;
-      changes = right.changes;
-      entry = right.entry;
-    })) in
-    let done = replay p history 0 blank_object [] (line_of p.seats history stands) refl refl (whole_in_place p.seats history stands one) called in
-    record { replays = done.0; order = order; contents = done.1 }
+-- the line of a seat that holds all numbers
+module _ (p : Plan) (numbers : List ℕ) (history : List Entry) (stands : List Stand) (is : IsHistory p history) (lawful : Lawful p numbers history stands)
+    (all : (x : ℕ) → x < p.seats → has numbers x ≡ true) where
+  kept_order : (x : ℕ) → x < p.seats → stands_by x (line_of p.seats history stands) ≡ stands_by x stands
+  kept_order x l = by_whole p.seats x history stands l (pairs_from Below stands lawful.rising)
+      (each_from (Within history) stands (λ i s at. ((lawful.right i s at).place, λ c. at_below history s.place (entry_of s) ((lawful.right i s at).entry c))))
+
+  replayed : Replays p blank_object [] (line_of p.seats history stands) × ((after_stands blank_object (line_of p.seats history stands)).contents ≡ state_at history (length history))
+      × Tells p history blank_object [] (line_of p.seats history stands)
+  replayed = replay p history 0 blank_object [] (line_of p.seats history stands) refl refl
+      (whole_in_place p.seats history stands (one_each p numbers history stands is lawful all)) (λ x l.
+      subst (λ (z : List Stand). Called p history None z) (sym (kept_order x l)) (called_by p history x None stands (λ i s at by.
+      let right = lawful.right i s at in
+      record {
+        reply = subst (λ n. IsReply p s.stock (state_at history s.place) (take s.place history) (held_by history n (take i stands)) s.call s.reply) by right.reply;
+        changes = right.changes;
+        entry = right.entry;
+      })))
+
+  pub in_one_line : InOneLine p history stands
+  in_one_line = record { replays = replayed.0; order = kept_order; contents = replayed.1 }
+
+  pub line_tells : Tells p history blank_object [] (line_of p.seats history stands)
+  line_tells = replayed.2
 
 middle : (seen : List Entry) (e : Entry) (rest : List Entry) → get_elem? (seen ++ e ∷ rest) (length seen) ≡ some e
 middle [] e rest = refl

@@ -1,5 +1,5 @@
 -- Whether a seat holds a record, as it sees more and its calls stand.
-use Rattle.std.proofs.Common.{◌≡◌, ℕ, Bool, true, false, List, [], ◌∷◌, ◌++◌, Option, None, length, is_some, cond, eq-eqb, append_assoc, refl, ap, ◌∙◌}
+use Rattle.std.proofs.Common.{◌≡◌, ℕ, Bool, true, List, [], ◌∷◌, ◌++◌, Option, None, length, is_some, cond, eq-eqb, append_assoc, refl, ap, ◌∙◌}
 use Rattle.std.proofs.lemmas.Bool.{false≢true}
 use Rattle.seat_history.specs.Change.{is_change}
 use Rattle.step_rules.specs.Records.{is_change_in}
@@ -11,6 +11,7 @@ use Rattle.seat_history.specs.declared.call.Call.TheVariants.{Hold, Release}
 use Rattle.seat_history.specs.declared.entry.Entry.{Entry}
 use Rattle.seat_history.specs.declared.reply.Reply.{Reply}
 use Rattle.step_rules.proofs.Line.Lawfuls.{held_from-append, held_more, placed_in}
+use Rattle.step_rules.specs.Holding.{holds_after}
 use Rattle.step_rules.specs.Lawful.{Lawful, held_by}
 use Rattle.step_rules.specs.SeatData.{holds_record}
 use Rattle.step_rules.specs.Views.{changing, claimed_records, entry, number, reading, stood_view, won_view}
@@ -36,13 +37,7 @@ change_holds c d held (Hold reg) h = absurd (false≢true h)
 change_holds c d held Release h = absurd (false≢true h)
 change_holds c d held _ h = refl
 
--- whether a record is held after a call
-abbrev pub holding_after : Bool → Call → Bool
-holding_after held (Hold reg) = true
-holding_after held Release = false
-holding_after held _ = held
-
-is_held_after : (c : Contents) (held : Option (List ℕ)) (call : Call) → is_some (held_after c held call) ≡ holding_after (is_some held) call
+pub is_held_after : (c : Contents) (held : Option (List ℕ)) (call : Call) → is_some (held_after c held call) ≡ holds_after (is_some held) call
 is_held_after c held (Hold reg) = refl
 is_held_after c held Release = refl
 is_held_after c held _ = refl
@@ -56,11 +51,11 @@ won_holds k x n call v log rest lawful changes seen = let e = entry (number v) c
     ∙ held_longer v (rest ++ e ∷ []) es lawful (ap (λ l. l ++ e ∷ []) seen ∙ append_assoc v.seen rest (e ∷ []))))
 
 -- a stand may begin or end it
-pub stood_holds : (q : ℕ) (call : Call) (reply : Reply) (v : View) → holds_record (stood_view q call reply v) ≡ holding_after (holds_record v) call
+pub stood_holds : (q : ℕ) (call : Call) (reply : Reply) (v : View) → holds_record (stood_view q call reply v) ≡ holds_after (holds_record v) call
 stood_holds q call reply v = ap is_some (held_next v.seen (number v) v.stands (reading q call reply v) refl) ∙ is_held_after (state_at v.seen q) (held_by v.seen (number v) v.stands) call
 
 -- only these two calls say whether a record is held
-pub else_holding : (held : Bool) (call : Call) → ((reg : ℕ) → call ≡ Hold reg → ⊥) → (call ≡ Release → ⊥) → held ≡ holding_after held call
+pub else_holding : (held : Bool) (call : Call) → ((reg : ℕ) → call ≡ Hold reg → ⊥) → (call ≡ Release → ⊥) → held ≡ holds_after held call
 else_holding held (Hold reg) a b = absurd (a reg refl)
 else_holding held Release a b = absurd (b refl)
 else_holding held _ a b = refl

@@ -19,10 +19,11 @@ use Rattle.step_rules.proofs.Numbers.Bags.{has_times, one_list, times-append, ti
 use Rattle.step_rules.proofs.Keeps.Claiming.{announced_word}
 use Rattle.step_rules.proofs.Keeps.Stores.{stored_nodes}
 use Rattle.step_rules.proofs.Ties.Pools.{is_own}
-use Rattle.step_rules.proofs.Line.Records.{held_longer, holding_after, stood_holds}
+use Rattle.step_rules.proofs.Line.Records.{held_longer, stood_holds}
 use Rattle.step_rules.proofs.World.Silent.{Quiet, no_claims_quiet, none_announced}
 use Rattle.step_rules.proofs.Line.Stocks.{stock_within}
 use Rattle.step_rules.proofs.Numbers.Sets.{at_has, at_most_below, has_first, length-nodes_of}
+use Rattle.step_rules.specs.Holding.{holds_after}
 use Rattle.step_rules.specs.Bags.{IsWithout, times}
 use Rattle.step_rules.specs.Claims.{BACK, OWN, On, Tells, WALK}
 use Rattle.step_rules.specs.Kinds.Backup.{Looks, MayExchange}
@@ -336,10 +337,10 @@ module _ (s : Inside) (whole : IsWhole s) (inner : Seat Call View) (slots : inne
       (cases_eq (x / 2) (y / 2))
 
   -- a stand
-  pub whole_stood : (q : ℕ) (call : Call) (reply : Reply) (holds : Bool) → inner.me.0 ≡ stood_view q call reply v → holds ≡ holding_after s.holds_record call
+  pub whole_stood : (q : ℕ) (call : Call) (reply : Reply) (holds : Bool) → inner.me.0 ≡ stood_view q call reply v → holds ≡ holds_after s.holds_record call
       → IsWhole (record s { inner = inner; fresh = false; holds_record = holds })
   whole_stood q call reply holds after is = stepped_to (stood_view q call reply v) holds s.claims after refl refl
-      (is ∙ (ap (λ h. holding_after h call) whole.0.holds ∙ sym (stood_holds q call reply v))) whole.0.claims whole.0.own_free
+      (is ∙ (ap (λ h. holds_after h call) whole.0.holds ∙ sym (stood_holds q call reply v))) whole.0.claims whole.0.own_free
 
 -- a seat as it is made, where it knows v and made no step
 pub record IsNew (s : Inside) (v : View) : Type 0 where

@@ -45,8 +45,8 @@ loop-bucket-preserved c =
     (has.records ∙ ap (λ (z : ClosedData). records_at z.plan z.history (z.plan.registers + b)) c.self.view_is)
     ∙ ap (bucket_values c.args.self.now.plan c.args.self.now.history) next))
 
-pub returns : goal.returns
-returns c =
+pub returns-clause-pairs : goal.returns-clause-pairs
+returns-clause-pairs c =
     let k = c.self.invariant in
     let z = c.args.self.now in
     let end : c.loop-bucket.bucket ≡ c.self.inside.plan.buckets = let t = c.loop-bucket-test.false in let e = c.loop-bucket.auto.bucket-end in omega arith in
@@ -54,4 +54,4 @@ returns c =
     c.loop-bucket.invariant
     ∙ (ap (bucket_values z.plan z.history) (end ∙ ap (λ (d : ClosedData). d.plan.buckets) c.self.view_is)
     ∙ (λ i n. all_values z.plan z.history n (subst (λ (d : ClosedData). IsHistory d.plan d.history) c.self.view_is k.8) i)) in
-    subst (λ f. IfOk c.pairs.result (λ pairs. ArePairsOf f pairs)) all c.pairs.ensures
+    subst (λ f. IfOk c.pairs.result (λ pairs. ArePairsOf f pairs)) all c.pairs.ensures.pairs

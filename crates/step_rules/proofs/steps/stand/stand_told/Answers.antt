@@ -2,7 +2,8 @@ use Rattle.std.proofs.Common.{refl, sym, ap, ◌∙◌, subst, arith, true, fals
 use Rattle.seat_history.specs.declared.call.Call.{Call}
 use Rattle.seat_history.specs.declared.reply.Reply.{Reply}
 use Rattle.step_rules.proofs.Rely.Owed.{meets, stand_call}
-use Rattle.step_rules.proofs.Line.Records.{else_holding, holding_after}
+use Rattle.step_rules.proofs.Line.Records.{else_holding}
+use Rattle.step_rules.specs.Holding.{holds_after}
 use Rattle.step_rules.proofs.Ties.Tied.{lawful, whole_stood}
 use Rattle.step_rules.specs.Kinds.Standing.{MayStand}
 use Rattle.step_rules.specs.SeatData.{SeatData}
@@ -23,17 +24,17 @@ load-requires g c =
 pub invariant_of-seat : goal.invariant_of-seat
 invariant_of-seat g c = let told = c.load.ensures.2 in
     whole_stood c.seat.inside c.seat.invariant c.load.new.seat told.0 told.1 g.P.Place.place g.T.Telling.call g.T.Telling.reply true (told.2 refl)
-    (sym (ap (holding_after c.seat.inside.holds_record) (sym c.requires.told.0 ∙ c.in-Hold.is)))
+    (sym (ap (holds_after c.seat.inside.holds_record) (sym c.requires.told.0 ∙ c.in-Hold.is)))
 
 pub invariant_of-seat-in-Release : goal.invariant_of-seat-in-Release
 invariant_of-seat-in-Release g c = let told = c.load.ensures.2 in
     whole_stood c.seat.inside c.seat.invariant c.load.new.seat told.0 told.1 g.P.Place.place g.T.Telling.call g.T.Telling.reply false (told.2 refl)
-    (sym (ap (holding_after c.seat.inside.holds_record) (sym c.requires.told.0 ∙ c.in-Release.is)))
+    (sym (ap (holds_after c.seat.inside.holds_record) (sym c.requires.told.0 ∙ c.in-Release.is)))
 
 pub invariant_of-seat-in_default : goal.invariant_of-seat-in_default
 invariant_of-seat-in_default g c = let told = c.load.ensures.2 in
     whole_stood c.seat.inside c.seat.invariant c.load.new.seat told.0 told.1 g.P.Place.place g.T.Telling.call g.T.Telling.reply _ (told.2 refl)
-    (else_holding c.seat.inside.holds_record c.args.call c.in_default.not-Hold c.in_default.not-Release ∙ ap (holding_after c.seat.inside.holds_record) c.requires.told.0)
+    (else_holding c.seat.inside.holds_record c.args.call c.in_default.not-Hold c.in_default.not-Release ∙ ap (holds_after c.seat.inside.holds_record) c.requires.told.0)
 
 pub returns-in-Hold-clause-law : goal.returns-in-Hold-clause-law
 returns-in-Hold-clause-law g c = lawful (record c.seat.inside { inner = c.load.new.seat; fresh = false; holds_record = true }) (invariant_of-seat g c)
