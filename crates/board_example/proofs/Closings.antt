@@ -1,25 +1,24 @@
 -- What a closed board holds.
-use Rattle.std.proofs.Common.{◌≡◌, ℕ, ◌%◌, ◌^◌, List, All, count_by, slice_index, sym, ap, subst, ◌∙◌}
-use Rattle.big_atomic.proofs.Lines.{line_counts, line_keeps}
-use Rattle.board_example.proofs.Replaying.{Come, blank_come, come_on}
+use Rattle.std.proofs.Common.{◌≡◌, ℕ, ◌+◌, ◌%◌, ◌^◌, true, List, count_by, sym, ap, subst, ◌∙◌, arith}
+use Rattle.big_atomic.proofs.CountingUp.{register_counts}
+use Rattle.big_atomic.proofs.Fitting.{records_fit}
+use Rattle.big_atomic.specs.Registers.{end_of}
+use Rattle.board_example.proofs.Making.{fits_elsewhere}
 use Rattle.board_example.specs.Ending.{IsEnding}
 use Rattle.board_example.specs.Readings.{is_whole}
-use Rattle.board_example.specs.Rules.{IsOurs, Kept, is_torn, is_yes}
-use Rattle.seat_history.specs.Contents.{Contents}
+use Rattle.board_example.specs.Rules.{Kept, count_in, fits_board, is_yes}
 use Rattle.step_rules.specs.Closing.{ClosedData, IsClosed}
 use Rattle.step_rules.specs.SeatData.{IsSeat, SeatData}
 use Rattle.step_rules.specs.declared.view.Stand.{Stand}
 
-pub ended : (seat : SeatData) (closed : ClosedData) (won bad : ℕ) → IsSeat seat → IsClosed seat closed → Kept seat.view.stands won bad → IsEnding closed won bad
-ended seat closed won bad law is kept =
-    let ours : All IsOurs closed.stands = subst (All IsOurs) (sym is.stands) kept.ours in
-    let come = line_keeps IsOurs Come seat closed is ours blank_come (come_on closed.plan) in
-    let won_is : won ≡ count_by is_yes closed.stands % 2 ^ 64 = kept.yes_is ∙ ap (λ (l : List Stand). count_by is_yes l % 2 ^ 64) (sym is.stands) in
-    let bad_is : bad ≡ count_by is_torn closed.stands % 2 ^ 64 = kept.torn_is ∙ ap (λ (l : List Stand). count_by is_torn l % 2 ^ 64) (sym is.stands) in
+pub ended : (seat : SeatData) (closed : ClosedData) (won torn : ℕ) → IsSeat seat → IsClosed seat closed → Kept seat.view.stands won torn → IsEnding closed won torn
+ended seat closed won torn law is kept =
+    let here : Kept closed.stands won torn = subst (λ (l : List Stand). Kept l won torn) (sym is.stands) kept in
+    let fit = records_fit fits_board is_whole (record { registers = λ r. λ _. true; none_held = λ _. true }) seat closed law is (λ k d l. (here.ours k d l).0) in
+    let counts : count_in ((end_of closed).registers 0) % 2 ^ 64 ≡ (0 + count_by is_yes closed.stands) % 2 ^ 64 = register_counts 0 count_in seat closed law is (λ k d l. (here.ours k d l).1) in
     record {
-      won_is = won_is;
-      counter = ap (λ (c : Contents). slice_index (c.registers 0) 0 % 2 ^ 64) (sym is.line.contents)
-          ∙ (come.counter ∙ (ap (λ n. n % 2 ^ 64) (line_counts is_yes seat closed law is) ∙ sym won_is));
-      torn = bad_is ∙ ap (λ n. n % 2 ^ 64) (sym (line_counts is_torn seat closed law is) ∙ come.torn);
-      whole = λ r other. ap (λ (c : Contents). is_whole (c.registers r)) (sym is.line.contents) ∙ come.good.registers r other;
+      won_is = here.yes_is;
+      counter = omega (arith, counts, here.yes_is);
+      torn = here.torn_is ∙ ap (λ n. n % 2 ^ 64) fit.none_unfit;
+      whole = λ r other. sym (fits_elsewhere r ((end_of closed).registers r) other) ∙ fit.registers r;
     }

@@ -1,84 +1,64 @@
 -- What each call leaves of a member's counts.
-use Rattle.std.proofs.Common.{◌≡◌, ℕ, ◌+◌, ◌%◌, ◌^◌, Bool, true, false, List, [], ◌∷◌, ◌++◌, cond, count_by, is_some, sym, ap, subst, ◌∙◌, arith}
-use Rattle.std.proofs.lemmas.List.Elements.{All-append, All-push}
-use Rattle.big_atomic.specs.Calls.{HoldStays}
-use Rattle.big_atomic.proofs.Counting.{count_append, count_push}
-use Rattle.board_example.specs.Rules.{IsOurCall, IsOurs, Kept, is_torn, is_torn_call, is_yes, tells_yes}
+use Rattle.std.proofs.Common.{◌≡◌, ◌≢◌, ℕ, ◌+◌, ◌%◌, ◌^◌, ◌||◌, Bool, true, false, List, ◌++◌, All, cond, refl, sym, ap, subst, ◌∙◌, ne_eqb}
+use Rattle.std.proofs.lemmas.List.Elements.{All-append}
+use Rattle.big_atomic.proofs.Adding.{all_more, counts_both, counts_more, counts_same}
+use Rattle.big_atomic.specs.Registers.{tells_counted, tells_unfit}
+use Rattle.big_atomic.specs.Stands.{StandsMore}
+use Rattle.board_example.specs.Readings.{is_whole}
+use Rattle.board_example.specs.Rules.{IsOurCall, Kept, fits_board, is_torn, is_yes}
 use Rattle.seat_history.specs.declared.call.Call.{Call}
 use Rattle.seat_history.specs.declared.reply.Reply.{Reply}
-use Rattle.step_rules.specs.SeatData.{SeatData, holds_record}
-use Rattle.step_rules.specs.Stood.{Stood, StoodStill}
-use Rattle.step_rules.specs.declared.view.Counted.{Counted}
+use Rattle.step_rules.specs.SeatData.{SeatData}
 use Rattle.step_rules.specs.declared.view.Stand.{Stand}
-use Rattle.step_rules.specs.declared.view.View.{View}
 
--- one stand more, of this call with this reply
-pub record StandsMore (asked : Call) (told : Reply) (stands news : List Stand) : Type 0 where
-  pub stand : Stand
-  pub more : news ≡ stands ++ stand ∷ []
-  pub call : stand.call ≡ asked
-  pub reply : stand.reply ≡ told
+or_false : (b : Bool) → (b || false) ≡ b
+or_false true = refl
+or_false false = refl
 
-pub stood_more : {asked : Call} {told : Reply} {stand : Stand} {steps : List Counted} {v w : View} → Stood asked told stand steps v w → StandsMore asked told v.stands w.stands
-stood_more {stand = stand} s = record { stand = stand; more = s.stands; call = s.call; reply = s.reply }
+or_true : (b : Bool) → (b || true) ≡ true
+or_true true = refl
+or_true false = refl
 
-pub stood_still_more : {asked : Call} {told : Reply} {stand : Stand} {steps : List Counted} {v w : View} → StoodStill asked told stand steps v w → StandsMore asked told v.stands w.stands
-stood_still_more {stand = stand} s = record { stand = stand; more = s.stands; call = s.call; reply = s.reply }
+-- any record fits the counter
+pub counter_fits : (words : List ℕ) → fits_board 0 words ≡ true
+counter_fits words = or_true (is_whole words)
 
-mod_sum : (a b c y : ℕ) → y ≡ (a % 2 ^ 64 + b) % 2 ^ 64 → c ≡ a + b → y ≡ c % 2 ^ 64
-mod_sum a b c y e s = omega arith
+-- elsewhere than in the counter only whole readings fit
+pub fits_elsewhere : (reg : ℕ) (words : List ℕ) → reg ≢ 0 → fits_board reg words ≡ is_whole words
+fits_elsewhere reg words other = ap (λ b. is_whole words || b) (ne_eqb reg 0 other) ∙ or_false (is_whole words)
 
-mod_both : (a b c y : ℕ) → y ≡ (a % 2 ^ 64 + b % 2 ^ 64) % 2 ^ 64 → c ≡ a + b → y ≡ c % 2 ^ 64
-mod_both a b c y e s = omega arith
-
-mod_same : (n a : ℕ) → n ≡ a % 2 ^ 64 → n ≡ (n + 0) % 2 ^ 64
-mod_same n a e = omega arith
-
-module _ {asked : Call} {told : Reply} {stands news : List Stand} {won torn : ℕ} (kept : Kept stands won torn) (m : StandsMore asked told stands news) (ours : IsOurCall asked) where
-  kept_more : (counts torn_here : Bool) → tells_yes told ≡ counts → is_torn_call asked told ≡ torn_here → Kept news ((won + cond counts 1 0) % 2 ^ 64) ((torn + cond torn_here 1 0) % 2 ^ 64)
-  kept_more counts torn_here y t =
-      let s = m.stand in
-      let yes_is : cond (is_yes s) 1 0 ≡ cond counts 1 0 = ap (λ b. cond b 1 0) (ap tells_yes m.reply ∙ y) in
-      let torn_is : cond (is_torn s) 1 0 ≡ cond torn_here 1 0 = ap (λ b. cond b 1 0) (ap (λ (k : Call). is_torn_call k s.reply) m.call ∙ (ap (λ (r : Reply). is_torn_call asked r) m.reply ∙ t)) in
-      let all : Kept (stands ++ s ∷ []) ((won + cond counts 1 0) % 2 ^ 64) ((torn + cond torn_here 1 0) % 2 ^ 64) = record {
-        ours = All-push IsOurs stands s kept.ours (subst IsOurCall (sym m.call) ours);
-        yes_is = mod_sum (count_by is_yes stands) (cond counts 1 0) (count_by is_yes (stands ++ s ∷ [])) ((won + cond counts 1 0) % 2 ^ 64)
-            (ap (λ n. (n + cond counts 1 0) % 2 ^ 64) kept.yes_is) (count_push is_yes stands s ∙ ap (λ n. count_by is_yes stands + n) yes_is);
-        torn_is = mod_sum (count_by is_torn stands) (cond torn_here 1 0) (count_by is_torn (stands ++ s ∷ [])) ((torn + cond torn_here 1 0) % 2 ^ 64)
-            (ap (λ n. (n + cond torn_here 1 0) % 2 ^ 64) kept.torn_is) (count_push is_torn stands s ∙ ap (λ n. count_by is_torn stands + n) torn_is);
-      } in
-      subst (λ (l : List Stand). Kept l ((won + cond counts 1 0) % 2 ^ 64) ((torn + cond torn_here 1 0) % 2 ^ 64)) (sym m.more) all
-
-  same_won : won ≡ (won + 0) % 2 ^ 64
-  same_won = mod_same won (count_by is_yes stands) kept.yes_is
-
-  same_torn : torn ≡ (torn + 0) % 2 ^ 64
-  same_torn = mod_same torn (count_by is_torn stands) kept.torn_is
-
+module _ {asked : Call} {told : Reply} {before after : SeatData} {won torn : ℕ} (kept : Kept before.view.stands won torn) (m : StandsMore asked told before after) (ours : IsOurCall asked) where
   -- neither count changes
-  pub kept_same : tells_yes told ≡ false → is_torn_call asked told ≡ false → Kept news won torn
-  kept_same y t = subst (λ (z : ℕ × ℕ). Kept news z.0 z.1) (λ i. (sym same_won i, sym same_torn i)) (kept_more false false y t)
+  pub kept_same : tells_counted 0 asked told ≡ false → tells_unfit fits_board is_whole asked told ≡ false → Kept after.view.stands won torn
+  kept_same y t = record {
+    ours = all_more m IsOurCall kept.ours ours;
+    yes_is = counts_same m (tells_counted 0) kept.yes_is y;
+    torn_is = counts_same m (tells_unfit fits_board is_whole) kept.torn_is t;
+  }
 
-  -- a count that was made
-  pub kept_yes : tells_yes told ≡ true → is_torn_call asked told ≡ false → Kept news ((won + 1) % 2 ^ 64) torn
-  kept_yes y t = subst (λ n. Kept news ((won + 1) % 2 ^ 64) n) (sym same_torn) (kept_more true false y t)
+  -- a try to count
+  pub kept_try : (b : Bool) (now : ℕ) → now ≡ (won + cond b 1 0) % 2 ^ 64 → tells_counted 0 asked told ≡ b → tells_unfit fits_board is_whole asked told ≡ false
+      → Kept after.view.stands now torn
+  kept_try b now is y t = record {
+    ours = all_more m IsOurCall kept.ours ours;
+    yes_is = is ∙ counts_more m (tells_counted 0) b kept.yes_is y;
+    torn_is = counts_same m (tells_unfit fits_board is_whole) kept.torn_is t;
+  }
 
-  -- a reading that isn't whole
-  pub kept_torn : tells_yes told ≡ false → is_torn_call asked told ≡ true → Kept news won ((torn + 1) % 2 ^ 64)
-  kept_torn y t = subst (λ n. Kept news n ((torn + 1) % 2 ^ 64)) (sym same_won) (kept_more false true y t)
+  -- a reading
+  pub kept_reading : (b : Bool) (now : ℕ) → now ≡ (torn + cond b 1 0) % 2 ^ 64 → tells_counted 0 asked told ≡ false → tells_unfit fits_board is_whole asked told ≡ b
+      → Kept after.view.stands won now
+  kept_reading b now is y t = record {
+    ours = all_more m IsOurCall kept.ours ours;
+    yes_is = counts_same m (tells_counted 0) kept.yes_is y;
+    torn_is = is ∙ counts_more m (tells_unfit fits_board is_whole) b kept.torn_is t;
+  }
 
 -- the stands of two seats
-pub kept_both : {stands others : List Stand} {won torn other_yes other_torn : ℕ} (news : List Stand) → Kept stands won torn → Kept others other_yes other_torn → news ≡ stands ++ others
-    → Kept news ((won + other_yes) % 2 ^ 64) ((torn + other_torn) % 2 ^ 64)
-kept_both {stands} {others} {won} {torn} {other_yes} {other_torn} news a b is =
-    let both : Kept (stands ++ others) ((won + other_yes) % 2 ^ 64) ((torn + other_torn) % 2 ^ 64) = record {
-      ours = All-append IsOurs stands others a.ours b.ours;
-      yes_is = mod_both (count_by is_yes stands) (count_by is_yes others) (count_by is_yes (stands ++ others)) ((won + other_yes) % 2 ^ 64)
-          (ap (λ n. (n + other_yes) % 2 ^ 64) a.yes_is ∙ ap (λ n. (count_by is_yes stands % 2 ^ 64 + n) % 2 ^ 64) b.yes_is) (count_append is_yes stands others);
-      torn_is = mod_both (count_by is_torn stands) (count_by is_torn others) (count_by is_torn (stands ++ others)) ((torn + other_torn) % 2 ^ 64)
-          (ap (λ n. (n + other_torn) % 2 ^ 64) a.torn_is ∙ ap (λ n. (count_by is_torn stands % 2 ^ 64 + n) % 2 ^ 64) b.torn_is) (count_append is_torn stands others);
-    } in
-    subst (λ (l : List Stand). Kept l ((won + other_yes) % 2 ^ 64) ((torn + other_torn) % 2 ^ 64)) (sym is) both
-
-pub none_after : {u v : SeatData} → HoldStays u v → holds_record u.view ≡ false → holds_record v.view ≡ false
-none_after stays none = ap (λ o. is_some o) stays.held ∙ none
+pub kept_both : {stands others : List Stand} {won torn other_won other_torn : ℕ} (news : List Stand) → Kept stands won torn → Kept others other_won other_torn → news ≡ stands ++ others
+    → Kept news ((won + other_won) % 2 ^ 64) ((torn + other_torn) % 2 ^ 64)
+kept_both {stands} {others} news a b is = record {
+  ours = subst (λ l. All (λ (s : Stand). IsOurCall s.call) l) (sym is) (All-append (λ (s : Stand). IsOurCall s.call) stands others a.ours b.ours);
+  yes_is = counts_both is_yes stands others news a.yes_is b.yes_is is;
+  torn_is = counts_both is_torn stands others news a.torn_is b.torn_is is;
+}

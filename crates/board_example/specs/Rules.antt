@@ -1,67 +1,51 @@
 -- What the callers of the board call, and what they count.
-use Rattle.std.specs.Prelude.{◌≡◌, ◌≢◌, ℕ, ◌+◌, ◌*◌, ◌<◌, ◌≤◌, length, ◌%◌, ◌^◌, ◌==◌, Bool, true, false, not, ◌&&◌, List, All, count_by, slice_index, ⊤}
+use Rattle.std.specs.Prelude.{◌≡◌, ℕ, ◌==◌, ◌||◌, Bool, true, false, List, All, map, slice_index}
 use Rattle.big_atomic.specs.Ready.{IsReady}
+use Rattle.big_atomic.specs.Registers.{CountsUp, GivesFitting, tells_counted, tells_unfit}
+use Rattle.big_atomic.specs.Stands.{Counts, by_call}
 use Rattle.board_example.specs.Readings.{is_whole}
+use Rattle.board_example.specs.declared.member.Member.{Member}
 use Rattle.seat_history.specs.declared.call.Call.{Call}
-use Rattle.seat_history.specs.declared.call.Call.TheVariants.{Load, Store, Swap, Hold, Look, Release}
-use Rattle.seat_history.specs.declared.reply.Reply.{Reply}
-use Rattle.seat_history.specs.declared.reply.Reply.TheVariants.{Words, Yes}
-use Rattle.step_rules.specs.SeatData.{ObjectData, SeatData, holds_record}
+use Rattle.step_rules.specs.SeatData.{IsOf, ObjectData, SeatData, holds_record, is_quiet}
 use Rattle.step_rules.specs.declared.view.Stand.{Stand}
-use Rattle.step_rules.specs.declared.view.View.{View}
 
--- the new record counts one more
-abbrev pub IsNext : List ℕ → List ℕ → Type 0
-IsNext old new = slice_index new 0 ≡ (slice_index old 0 + 1) % 2 ^ 64
+-- a record's count
+abbrev pub count_in : List ℕ → ℕ
+count_in words = slice_index words 0
 
--- a call that the board's callers make: whole readings are stored elsewhere than in the counter, which is only counted up
+-- every register but the counter has a whole reading
+abbrev pub fits_board : ℕ → List ℕ → Bool
+fits_board reg words = is_whole words || (reg == 0)
+
+-- a call that the board's callers make: whole readings are stored elsewhere than in the counter, which is only counted up, and only readings are held
 abbrev pub IsOurCall : Call → Type 0
-IsOurCall (Load reg) = ⊤
-IsOurCall (Store reg new) = (reg ≢ 0) × (is_whole new ≡ true)
-IsOurCall (Swap reg old new) = (reg ≡ 0) × IsNext old new
-IsOurCall (Hold reg) = reg ≢ 0
-IsOurCall Look = ⊤
-IsOurCall Release = ⊤
-IsOurCall _ = ⊥
-
-abbrev pub IsOurs : Stand → Type 0
-IsOurs s = IsOurCall s.call
-
-abbrev pub tells_yes : Reply → Bool
-tells_yes Yes = true
-tells_yes _ = false
+IsOurCall call = GivesFitting fits_board is_whole call × CountsUp 0 count_in call
 
 -- a count that was made
 abbrev pub is_yes : Stand → Bool
-is_yes s = tells_yes s.reply
-
--- words that are no whole reading
-abbrev pub tells_torn : Reply → Bool
-tells_torn (Words words) = not (is_whole words)
-tells_torn _ = false
-
-abbrev pub is_torn_call : Call → Reply → Bool
-is_torn_call (Load reg) reply = not (reg == 0) && tells_torn reply
-is_torn_call Look reply = tells_torn reply
-is_torn_call _ reply = false
+is_yes = by_call (tells_counted 0)
 
 -- a reading that is not whole, of another register than the counter
 abbrev pub is_torn : Stand → Bool
-is_torn s = is_torn_call s.call s.reply
+is_torn = by_call (tells_unfit fits_board is_whole)
 
 -- the stands are ours, and the numbers count them
 pub record Kept (stands : List Stand) (yes torn : ℕ) : Type 0 where
-  pub ours : All IsOurs stands
-  pub yes_is : yes ≡ count_by is_yes stands % 2 ^ 64
-  pub torn_is : torn ≡ count_by is_torn stands % 2 ^ 64
+  pub ours : All (λ (s : Stand). IsOurCall s.call) stands
+  pub yes_is : Counts is_yes stands yes
+  pub torn_is : Counts is_torn stands torn
 
--- a seat between two calls of a member that holds nothing
-pub record Works (shared : ObjectData) (seat : SeatData) (yes torn : ℕ) : Type 0 where
-  pub ready : IsReady shared seat
-  pub none_held : holds_record seat.view ≡ false
-  pub kept : Kept seat.view.stands yes torn
+-- a member between two calls, that holds nothing
+pub record Works (shared : ObjectData) (member : Member) : Type 0 where
+  pub ready : IsReady shared member.seat
+  pub none_held : holds_record member.seat.view ≡ false
+  pub kept : Kept member.seat.view.stands member.yes member.torn
 
--- the seat has seen more of the history, which is no longer than the plan allows
-pub record HasSeenMore (shared : ObjectData) (before after : View) : Type 0 where
-  pub more : length before.seen < length after.seen
-  pub within : length after.seen ≤ shared.plan.seats * shared.plan.changes
+-- a member after all its calls, or several whose seats were joined
+pub record HasDone (shared : ObjectData) (member : Member) : Type 0 where
+  pub ours : IsOf shared member.seat
+  pub quiet : is_quiet member.seat ≡ true
+  pub kept : Kept member.seat.view.stands member.yes member.torn
+
+abbrev pub seats_of : List Member → List SeatData
+seats_of members = map (λ (one : Member). one.seat) members

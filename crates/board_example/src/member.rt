@@ -1,7 +1,8 @@
 //! What one caller does, in its own thread.
-ghost use Rattle.std.specs.Prelude.{◌≡◌, ◌≢◌, ◌<◌, ◌≤◌};
-ghost use Rattle.big_atomic.specs.Seats.{IsUnused};
-ghost use Rattle.board_example.specs.Rules.{HasSeenMore, Works};
+ghost use Rattle.std.specs.Prelude.{◌≡◌, ◌≢◌, ◌+◌, ◌%◌, ◌^◌, ◌<◌, ◌≤◌, cond};
+ghost use Rattle.big_atomic.specs.Seats.{IsUnused, Stays};
+ghost use Rattle.big_atomic.specs.Stands.{HasSeenMore};
+ghost use Rattle.board_example.specs.Rules.{HasDone, Works};
 
 use crate::reading::{reading, whole};
 use big_atomic::{Seat, Shared, Swap, compare_and_swap, hold, load, look, release_hold, store};
@@ -14,12 +15,20 @@ pub(crate) struct Member {
     pub(crate) torn: u64,
 }
 
+// Counts one more where it is so.
+fn more(count: u64, one: bool) -> u64
+    ensures { result ≡ (count + cond one 1 0) % 2 ^ 64 }
+{
+    count.wrapping_add(u64::from(one))
+}
+
 // Publishes the reading of this round, where a change is left.
 fn publish(shared: &Shared, member: &mut Member, reg: u32, round: u32)
-    requires works { Works shared.now member.old.seat member.old.yes member.old.torn }
+    requires works { Works shared.now member.old }
     requires there { reg < shared.now.plan.registers }
     requires board { reg ≢ 0 }
-    ensures works { Works shared.now member.new.seat member.new.yes member.new.torn }
+    ensures works { Works shared.now member.new }
+    ensures stays { Stays member.old.seat member.new.seat }
 {
     if member.seat.changes_left() == 0 {
         return;
@@ -30,75 +39,58 @@ fn publish(shared: &Shared, member: &mut Member, reg: u32, round: u32)
 
 // Reads a register of the board.
 fn read(shared: &Shared, member: &mut Member, reg: u32)
-    requires works { Works shared.now member.old.seat member.old.yes member.old.torn }
+    requires works { Works shared.now member.old }
     requires there { reg < shared.now.plan.registers }
     requires board { reg ≢ 0 }
-    ensures works { Works shared.now member.new.seat member.new.yes member.new.torn }
+    ensures works { Works shared.now member.new }
+    ensures stays { Stays member.old.seat member.new.seat }
 {
     let words = load(shared, &mut member.seat, reg);
-    if !whole(&words) {
-        member.torn = member.torn.wrapping_add(1);
-    }
+    member.torn = more(member.torn, !whole(&words));
 }
 
 // Holds a record of the board, looks at it, and lets it go.
 fn hold_one(shared: &Shared, member: &mut Member, reg: u32)
-    requires works { Works shared.now member.old.seat member.old.yes member.old.torn }
+    requires works { Works shared.now member.old }
     requires there { reg < shared.now.plan.registers }
     requires board { reg ≢ 0 }
-    ensures works { Works shared.now member.new.seat member.new.yes member.new.torn }
+    ensures works { Works shared.now member.new }
+    ensures stays { Stays member.old.seat member.new.seat }
 {
     hold(shared, &mut member.seat, reg);
     let words = look(shared, &mut member.seat);
-    if !whole(&words) {
-        member.torn = member.torn.wrapping_add(1);
-    }
+    member.torn = more(member.torn, !whole(&words));
     release_hold(shared, &mut member.seat);
 }
 
-// How a try to count up ended.
-#[derive(Clone, Copy)]
-enum Tried {
-    Made,
-    // Another caller's change came before it.
-    Missed,
-    // No node is free, or no change is left.
-    GaveUp,
-}
-
-// Tries once to count up. Where it is missed, the seat has seen more of the history than before.
-fn count_once(shared: &Shared, member: &mut Member) -> Tried
-    requires works { Works shared.now member.old.seat member.old.yes member.old.torn }
+// Tries once to count up. Where the answer is No, the seat has seen more of the history than before.
+fn count_once(shared: &Shared, member: &mut Member) -> Swap
+    requires works { Works shared.now member.old }
     requires there { 0 < shared.now.plan.registers }
-    ensures works { Works shared.now member.new.seat member.new.yes member.new.torn }
-    ensures missed { result ≡ Tried.Missed → HasSeenMore shared.now member.old.seat.view member.new.seat.view }
+    requires left { 0 < member.old.seat.view.changes }
+    ensures works { Works shared.now member.new }
+    ensures stays { Stays member.old.seat member.new.seat }
+    ensures missed { result ≡ Swap.No → HasSeenMore shared.now member.old.seat member.new.seat }
 {
-    if member.seat.changes_left() == 0 {
-        return Tried::GaveUp;
-    }
     let old = load(shared, &mut member.seat, 0);
     let mut new = old;
     new[0] = old[0].wrapping_add(1);
-    match compare_and_swap(shared, &mut member.seat, 0, old, new) {
-        Swap::Yes => {
-            member.yes = member.yes.wrapping_add(1);
-            Tried::Made
-        }
-        Swap::No => Tried::Missed,
-        Swap::Full { .. } => Tried::GaveUp,
-    }
+    let answer = compare_and_swap(shared, &mut member.seat, 0, old, new);
+    member.yes = more(member.yes, answer.is_yes());
+    answer
 }
 
-// Tries until the count is made, or given up. It ends, since each try that is missed has another
-// caller's change, and the plan allows so many.
+// Tries until the count is made, or no change or node is left for it. It ends, since each try that is
+// missed has another caller's change, and the plan allows so many.
 fn count_up(shared: &Shared, member: &mut Member)
-    requires works { Works shared.now member.old.seat member.old.yes member.old.torn }
+    requires works { Works shared.now member.old }
     requires there { 0 < shared.now.plan.registers }
-    ensures works { Works shared.now member.new.seat member.new.yes member.new.torn }
+    ensures works { Works shared.now member.new }
+    ensures stays { Stays member.old.seat member.new.seat }
 {
-    'tries: loop {
+    'tries: while member.seat.changes_left() != 0 {
         match count_once(shared, member) {
-            Tried::Missed => {}
+            Swap::No => {}
             _ => return,
         }
     }
@@ -108,7 +100,9 @@ fn count_up(shared: &Shared, member: &mut Member)
 /// caller with the number 0 holds what it reads.
 pub(crate) fn take_part(shared: &Shared, seat: Seat, rounds: u32) -> Member
     requires unused { IsUnused shared.now seat }
-    ensures works { Works shared.now result.seat result.yes result.torn }
+    requires board { 2 ≤ shared.now.plan.registers }
+    ensures done { HasDone shared.now result }
+    ensures stays { Stays seat result.seat }
 {
     let mut member = Member {
         seat,
@@ -116,9 +110,6 @@ pub(crate) fn take_part(shared: &Shared, seat: Seat, rounds: u32) -> Member
         torn: 0,
     };
     let registers = shared.plan().registers;
-    if registers < 2 {
-        return member;
-    }
     let number = member.seat.number();
     let own = 1 + number % (registers - 1);
     let next = 1 + own % (registers - 1);

@@ -1,14 +1,14 @@
 //! The whole program: a seat for each thread, the threads' work, and all seats joined.
-ghost use Rattle.std.specs.Prelude.{◌≡◌, All, IfOk, IfSome, true};
+ghost use Rattle.std.specs.Prelude.{◌≡◌, ◌≤◌, All, IfOk, IfSome};
+ghost use Rattle.big_atomic.specs.Seats.{AreBack, IsUnused, Stays};
 ghost use Rattle.board_example.specs.Ending.{IsEnding};
-ghost use Rattle.board_example.specs.Rules.{Works, Kept};
+ghost use Rattle.board_example.specs.Rules.{HasDone, seats_of};
 ghost use Rattle.step_rules.specs.Layout.{IsPlan};
-ghost use Rattle.step_rules.specs.SeatData.{IsOf};
 
 pub(crate) use crate::closing::Outcome;
-use crate::closing::finish;
+use crate::closing::{finish, gather};
 use crate::member::{Member, take_part};
-use big_atomic::{Plan, Shared, build, split_all};
+use big_atomic::{Plan, Seat, Shared, build, split_all};
 use std::alloc::{AllocError, Global};
 use std::thread;
 use std::thread::Threads;
@@ -19,7 +19,7 @@ pub(crate) struct Asked {
     pub(crate) plan: Plan,
     pub(crate) rounds: u32,
     ghost fits: { IsPlan plan },
-    ghost flat: { plan.buckets ≡ 0 },
+    ghost board: { 2 ≤ plan.registers },
 }
 
 impl Asked {
@@ -44,7 +44,8 @@ impl Asked {
     }
 }
 
-/// The counter is the number of counts answered Yes, no reading was torn, and the board is whole.
+/// The counter is the number of counts answered Yes, no reading was torn, and the board is whole. None
+/// where memory has no room for the object, or the plan has too many nodes.
 pub(crate) fn run<R: Threads + Sync>(
     rt: &R,
     alloc: Global,
@@ -58,40 +59,28 @@ pub(crate) fn run<R: Threads + Sync>(
     let Ok(seats) = split_all(alloc, &shared, seat) else {
         return Ok(None);
     };
-    let rounds = asked.rounds;
-    let members = thread::map_vec(rt, seats, &|seat| take_part(&shared, seat, rounds))?;
-    let Some(member) = gathered(&shared, members) else {
-        return Ok(None);
-    };
-    Ok(finish(shared, member))
+    let members = take_all(rt, &shared, seats, asked.rounds)?;
+    let member = gather(&shared, members);
+    Ok(Some(finish(shared, member)))
 }
 
-// Joins all seats into the first one, and adds up what they counted.
-fn gathered(shared: &Shared, members: Vec<Member>) -> Option<Member>
-    requires ours { All (λ one. Works shared.now one.seat one.yes one.torn) members.items }
-    ensures ours { IfSome result (λ one. IsOf shared.now one.seat) }
-    ensures kept { IfSome result (λ one. Kept one.seat.view.stands one.yes one.torn) }
+// Has each seat take part in a thread of its own.
+fn take_all<R: Threads + Sync>(
+    rt: &R,
+    shared: &Shared,
+    seats: Vec<Seat>,
+    rounds: u32,
+) -> Result<Vec<Member>, AllocError>
+    requires board { 2 ≤ shared.now.plan.registers }
+    requires unused { All (IsUnused shared.now) seats.items }
+    ensures done { IfOk result (λ members. All (HasDone shared.now) members.items) }
+    ensures back { IfOk result (λ members. AreBack seats.items (seats_of members.items)) }
 {
-    let mut members = members.into_iter();
-    let mut first = members.next()?;
-    for other in members {
-        gather(shared, &mut first, other);
-    }
-    Some(first)
-}
-
-// Takes a member's seat into the first one, where both are quiet.
-fn gather(shared: &Shared, first: &mut Member, other: Member)
-    requires ours { IsOf shared.now first.old.seat }
-    requires kept { Kept first.old.seat.view.stands first.old.yes first.old.torn }
-    requires theirs { Works shared.now other.seat other.yes other.torn }
-    ensures ours { IsOf shared.now first.new.seat }
-    ensures kept { Kept first.new.seat.view.stands first.new.yes first.new.torn }
-{
-    let Member { seat, yes, torn } = other;
-    if first.seat.is_first() && first.seat.quiet() && seat.quiet() {
-        shared.join(&mut first.seat, seat);
-        first.yes = first.yes.wrapping_add(yes);
-        first.torn = first.torn.wrapping_add(torn);
-    }
+    let job = |seat: Seat| -> Member
+        requires board { 2 ≤ shared.now.plan.registers }
+        requires unused { IsUnused shared.now seat }
+        ensures done { HasDone shared.entry.now result }
+        ensures stays { Stays seat result.seat }
+    { take_part(shared, seat, rounds) };
+    thread::map_vec(rt, seats, &job)
 }

@@ -2,7 +2,8 @@
 ghost use Rattle.std.specs.Prelude.{◌≡◌, ◌+◌, ◌<◌};
 ghost use Rattle.big_atomic.specs.Ready.{IsReady};
 ghost use Rattle.register_speed.specs.Counting.{HasLoaded, IsNext, Leaves, is_made};
-ghost use Rattle.speed_runs.specs.Runs.{Adds, HasCome, Stays};
+ghost use Rattle.big_atomic.specs.Seats.{Stays};
+ghost use Rattle.speed_runs.specs.Runs.{Adds, HasCome};
 ghost use Rattle.step_rules.specs.Views.{number};
 
 use crate::asked::Asked;

@@ -1,8 +1,9 @@
 -- What each call leaves of a thread's run.
-use Rattle.std.proofs.Common.{◌≡◌, ℕ, ◌+◌, ◌%◌, ◌^◌, ◌<◌, Bool, true, false, List, [], ◌∷◌, ◌++◌, cond, count_by, length, sym, ap, subst, ◌∙◌, arith, slice_index, length-append, is_some}
+use Rattle.std.proofs.Common.{◌≡◌, ℕ, ◌+◌, ◌%◌, ◌^◌, ◌<◌, Bool, true, false, List, [], ◌∷◌, ◌++◌, cond, count_by, length, sym, ap, subst, ◌∙◌, arith, slice_index, length-append}
 use Rattle.std.specs.Prelude.{if◌then◌else◌}
 use Rattle.std.proofs.lemmas.List.{append-nil, append_assoc}
 use Rattle.std.proofs.lemmas.List.Sums.{count_by-le-length}
+use Rattle.big_atomic.proofs.Adding.{counts_push, none_after}
 use Rattle.big_atomic.proofs.Counting.{count_push}
 use Rattle.big_atomic.specs.Seats.{IsUnused}
 use Rattle.speed_runs.specs.Runs.{Adds, AreTurns, HasCome, is_changing}
@@ -16,9 +17,6 @@ turns_push T before (x ∷ later) s all one = (
   all.0,
   turns_push T (before ++ x ∷ []) later s all.1 (subst (λ l. T l s) (sym (append_assoc before (x ∷ []) later)) one),
 )
-
-mod_sum : (a b c y : ℕ) → y ≡ (a % 2 ^ 64 + b) % 2 ^ 64 → c ≡ a + b → y ≡ c % 2 ^ 64
-mod_sum a b c y e s = omega arith
 
 spends : (b : Bool) (v w c d : ℕ) → w + (if b then 1 else 0) ≡ v → d ≡ c + cond b 1 0 → w + d ≡ v + c
 spends true v w c d e s = omega arith
@@ -40,13 +38,8 @@ module _ {T : ℕ → List Stand → Stand → Type 0} {P : Stand → Type 0} {i
     (c : HasCome T is_made shared i v done) (a : Adds P is_made shared made v w) (turn : P a.stand → T (number v.view) v.view.stands a.stand) where
   turns_on : AreTurns (T (number w.view)) [] w.view.stands
   turns_on =
-      let who : number v.view ≡ number w.view = ap (λ l. slice_index l 0) (sym a.numbers) in
+      let who : number v.view ≡ number w.view = ap (λ l. slice_index l 0) (sym a.stays.numbers) in
       subst (λ (z : ℕ × List Stand). AreTurns (T z.0) [] z.1) (λ j. (who j, sym a.more j)) (turns_push (T (number v.view)) [] v.view.stands a.stand c.turns (turn a.turn))
-
-  done_on : (done + cond made 1 0) % 2 ^ 64 ≡ count_by is_made w.view.stands % 2 ^ 64
-  done_on = mod_sum (count_by is_made v.view.stands) (cond made 1 0) (count_by is_made w.view.stands) ((done + cond made 1 0) % 2 ^ 64)
-      (ap (λ n. (n + cond made 1 0) % 2 ^ 64) c.done_is)
-      (ap (count_by is_made) a.more ∙ (count_push is_made v.view.stands a.stand ∙ ap (λ b. count_by is_made v.view.stands + cond b 1 0) a.made_is))
 
   changes_on : w.view.changes + count_by is_changing w.view.stands ≡ shared.plan.changes
   changes_on =
@@ -58,12 +51,12 @@ module _ {T : ℕ → List Stand → Stand → Type 0} {P : Stand → Type 0} {i
   pub come_on : HasCome T is_made shared (i + 1) w ((done + cond made 1 0) % 2 ^ 64)
   come_on = record {
     ready = a.ready;
-    alone = ap length a.numbers ∙ c.alone;
+    alone = ap length a.stays.numbers ∙ c.alone;
     count = let e : length w.view.stands ≡ length v.view.stands + 1 = ap length a.more ∙ length-append v.view.stands (a.stand ∷ []) in omega (arith, e, c.count);
     turns = turns_on;
-    done_is = done_on;
+    done_is = counts_push is_made v.view.stands w.view.stands a.stand made c.done_is a.more a.made_is;
     changes = changes_on;
-    none_held = ap (λ o. is_some o) a.hold.held ∙ c.none_held;
+    none_held = none_after a.hold c.none_held;
   }
 
 -- a call that wasn't made isn't counted

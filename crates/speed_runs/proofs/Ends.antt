@@ -4,10 +4,12 @@ use Rattle.std.proofs.Math.Nat.{add-mul, mul-add}
 use Rattle.std.proofs.lemmas.List.{append-nil, append_assoc}
 use Rattle.std.proofs.lemmas.List.Sums.{count_by-le-length}
 use Rattle.std.proofs.lemmas.Nat.{mul-le}
+use Rattle.big_atomic.proofs.Adding.{counts_both}
 use Rattle.big_atomic.proofs.Counting.{count_append}
+use Rattle.big_atomic.proofs.SeatNumbers.{single}
 use Rattle.big_atomic.proofs.Sharing.{ready_quiet}
-use Rattle.speed_runs.proofs.Seats.{long_up, single}
 use Rattle.speed_runs.specs.Runs.{AreRuns, HasCome, HasRun, IsEnding, is_changing}
+use Rattle.step_rules.proofs.Numbers.Sets.{length-count_up}
 use Rattle.step_rules.specs.Closing.{ClosedData, IsClosed}
 use Rattle.step_rules.specs.Layout.{IsPlan}
 use Rattle.step_rules.specs.SeatData.{ObjectData, SeatData}
@@ -46,9 +48,6 @@ runs_long T n (x ∷ later) stands (own, rest, parts, run, runs) =
     let e : length stands ≡ length own + length rest = ap length parts ∙ length-append own rest in
     omega (arith, e, run.all, runs_long T n later rest runs, mul-add n 1 (length later))
 
-mod_both : (a b c y : ℕ) → y ≡ (a % 2 ^ 64 + b % 2 ^ 64) % 2 ^ 64 → c ≡ a + b → y ≡ c % 2 ^ 64
-mod_both a b c y e s = omega arith
-
 -- the runs of two seats, in one
 pub ran_both : {T : ℕ → List Stand → Stand → Type 0} {is_made : Stand → Bool} {n : ℕ} {shared : ObjectData} {v w new : SeatData} {done other_done : ℕ}
     → HasRun T is_made n shared v done → HasRun T is_made n shared w other_done → IsJoined v w new → HasRun T is_made n shared new ((done + other_done) % 2 ^ 64)
@@ -61,8 +60,7 @@ ran_both {T} {is_made} {n} {shared} {v} {w} {new} {done} {other_done} a b joined
       quiet = joined.quiet;
       runs = subst (λ (z : List ℕ × List Stand). AreRuns T n z.0 z.1) (λ j. (sym numbers j, sym stands j))
           (runs_append T n v.view.numbers w.view.numbers v.view.stands w.view.stands a.runs b.runs);
-      done_is = mod_both (count_by is_made v.view.stands) (count_by is_made w.view.stands) (count_by is_made new.view.stands) ((done + other_done) % 2 ^ 64)
-          (λ j. (a.done_is j + b.done_is j) % 2 ^ 64) (ap (count_by is_made) stands ∙ count_append is_made v.view.stands w.view.stands);
+      done_is = counts_both is_made v.view.stands w.view.stands new.view.stands a.done_is b.done_is stands;
       changes = omega (
         arith,
         changes,
@@ -87,7 +85,7 @@ pub ended : {T : ℕ → List Stand → Stand → Type 0} {is_made : Stand → B
     → IsEnding T is_made plan filling timed closed filled calls done changes
 ended {T} {is_made} {shared} {seat} {closed} {plan} {filling} {timed} {filled} {calls} {done} {changes} is plan_is fits whole run few filled_is calls_is changes_is =
     let n = filling + timed in
-    let seats : length seat.view.numbers ≡ plan.seats = ap length whole ∙ long_up 0 plan.seats in
+    let seats : length seat.view.numbers ≡ plan.seats = ap length whole ∙ length-count_up 0 plan.seats in
     let all_seat : length seat.view.stands ≡ n * plan.seats = runs_long T n seat.view.numbers seat.view.stands run.runs ∙ ap (λ k. n * k) seats in
     let all : length closed.stands ≡ n * plan.seats = ap length is.stands ∙ all_seat in
     let done_seat : done ≡ count_by is_made seat.view.stands = whole_count done (count_by is_made seat.view.stands) (length seat.view.stands) n plan.seats

@@ -1,4 +1,2 @@
 pub mod Coming
-mod Jobs
 pub mod Ends
-pub mod Seats

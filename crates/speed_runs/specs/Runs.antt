@@ -1,7 +1,9 @@
 -- What the calls of the threads leave, and how many of them were made.
-use Rattle.std.specs.Prelude.{◌≡◌, ℕ, ◌+◌, ◌*◌, ◌%◌, ◌^◌, Bool, true, false, List, [], ◌∷◌, ◌++◌, count_by, length, map, slice_index, ⊤}
+use Rattle.std.specs.Prelude.{◌≡◌, ℕ, ◌+◌, ◌*◌, Bool, true, false, List, [], ◌∷◌, ◌++◌, count_by, length, map, slice_index, ⊤}
 use Rattle.big_atomic.specs.Calls.{HoldStays}
 use Rattle.big_atomic.specs.Ready.{IsReady}
+use Rattle.big_atomic.specs.Seats.{Stays}
+use Rattle.big_atomic.specs.Stands.{Counts}
 use Rattle.speed_runs.specs.declared.ran.Ran.{Ran}
 use Rattle.step_rules.specs.Closing.{ClosedData, IsClosed}
 use Rattle.step_rules.specs.SeatData.{IsOf, ObjectData, SeatData, holds_record, is_quiet}
@@ -41,8 +43,7 @@ pub record Adds (P : Stand → Type 0) (is_made : Stand → Bool) (shared : Obje
   pub turn : P stand
   pub made_is : is_made stand ≡ made
   pub changes : after.view.changes + spent stand ≡ before.view.changes
-  pub numbers : after.view.numbers ≡ before.view.numbers
-  pub first : after.first ≡ before.first
+  pub stays : Stays before after
   pub hold : HoldStays before after
 
 -- a seat of one thread, between two calls, after so many: how many of them were made, as they were counted, and what is left of its changes
@@ -51,27 +52,17 @@ pub record HasCome (IsTurn : ℕ → List Stand → Stand → Type 0) (is_made :
   pub alone : length seat.view.numbers ≡ 1
   pub count : length seat.view.stands ≡ i
   pub turns : AreTurns (IsTurn (number seat.view)) [] seat.view.stands
-  pub done_is : done ≡ count_by is_made seat.view.stands % 2 ^ 64
+  pub done_is : Counts is_made seat.view.stands done
   pub changes : seat.view.changes + count_by is_changing seat.view.stands ≡ shared.plan.changes
   pub none_held : holds_record seat.view ≡ false
-
--- a seat keeps its numbers, and whether it takes in others
-pub record Stays (before after : SeatData) : Type 0 where
-  pub numbers : after.view.numbers ≡ before.view.numbers
-  pub first : after.first ≡ before.first
 
 -- a quiet seat whose threads made all their calls: each of them stands
 pub record HasRun (IsTurn : ℕ → List Stand → Stand → Type 0) (is_made : Stand → Bool) (calls : ℕ) (shared : ObjectData) (seat : SeatData) (done : ℕ) : Type 0 where
   pub ours : IsOf shared seat
   pub quiet : is_quiet seat ≡ true
   pub runs : AreRuns IsTurn calls seat.view.numbers seat.view.stands
-  pub done_is : done ≡ count_by is_made seat.view.stands % 2 ^ 64
+  pub done_is : Counts is_made seat.view.stands done
   pub changes : seat.view.changes + count_by is_changing seat.view.stands ≡ shared.plan.changes * length seat.view.numbers
-
--- the first of these seats is the one that takes in others
-abbrev pub AreLed : List SeatData → Type 0
-AreLed [] = ⊥
-AreLed (seat ∷ later) = seat.first ≡ true
 
 abbrev pub seats_of : List Ran → List SeatData
 seats_of all = map (λ (one : Ran). one.seat) all

@@ -1,7 +1,7 @@
 //! Threads that call one object, and what the closed object holds.
 ghost use Rattle.std.specs.Prelude.{◌≡◌, ◌+◌, ◌*◌, ◌++◌, All, IfOk, IfSome, true};
-ghost use Rattle.big_atomic.specs.Seats.{IsUnused, all_numbers};
-ghost use Rattle.speed_runs.specs.Runs.{AreLed, HasCome, HasRun, IsEnding, Stays, seats_of};
+ghost use Rattle.big_atomic.specs.Seats.{AreBack, AreLed, IsUnused, Stays, all_numbers};
+ghost use Rattle.speed_runs.specs.Runs.{HasCome, HasRun, IsEnding, seats_of};
 ghost use Rattle.step_rules.specs.Views.{count_up};
 
 use crate::ran::Ran;
@@ -58,10 +58,8 @@ fn fill_all<R: Threads + Sync, W: Work + Sync>(
 ) -> Result<Vec<Ran>, AllocError>
     requires plan { shared.now.plan ≡ W.plan work.now }
     requires unused { All (IsUnused shared.now) seats.items }
-    requires led { AreLed seats.items }
     ensures come { IfOk result (λ all. All (λ one. HasCome (W.is_turn work.now) W.is_made shared.now (W.filling work.now) one.seat one.done) all.items) }
-    ensures numbers { IfOk result (λ all. all_numbers (seats_of all.items) ≡ all_numbers seats.items) }
-    ensures led { IfOk result (λ all. AreLed (seats_of all.items)) }
+    ensures back { IfOk result (λ all. AreBack seats.items (seats_of all.items)) }
 {
     let job = |seat: Seat| -> Ran
         requires plan { shared.now.plan ≡ W.plan work.now }
@@ -91,10 +89,8 @@ fn make_all<R: Threads + Sync, W: Work + Sync>(
 ) -> Result<Vec<Ran>, AllocError>
     requires plan { shared.now.plan ≡ W.plan work.now }
     requires come { All (λ one. HasCome (W.is_turn work.now) W.is_made shared.now (W.filling work.now) one.seat one.done) filled.items }
-    requires led { AreLed (seats_of filled.items) }
     ensures ran { IfOk result (λ all. All (λ one. HasRun (W.is_turn work.now) W.is_made (W.filling work.now + W.calls work.now) shared.now one.seat one.done) all.items) }
-    ensures numbers { IfOk result (λ all. all_numbers (seats_of all.items) ≡ all_numbers (seats_of filled.items)) }
-    ensures led { IfOk result (λ all. AreLed (seats_of all.items)) }
+    ensures back { IfOk result (λ all. AreBack (seats_of filled.items) (seats_of all.items)) }
 {
     let job = |ran: Ran| -> Ran
         requires plan { shared.now.plan ≡ W.plan work.now }

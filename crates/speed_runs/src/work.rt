@@ -1,6 +1,7 @@
 //! What a measuring program has its threads do.
 ghost use Rattle.std.specs.Prelude.{◌≡◌, ◌+◌, ℕ, Bool, List};
-ghost use Rattle.speed_runs.specs.Runs.{HasCome, Stays};
+ghost use Rattle.big_atomic.specs.Seats.{Stays};
+ghost use Rattle.speed_runs.specs.Runs.{HasCome};
 ghost use Rattle.step_rules.specs.Layout.{IsPlan};
 ghost use Rattle.step_rules.specs.declared.plan.Plan.{Plan};
 ghost use Rattle.step_rules.specs.declared.view.Stand.{Stand};

@@ -1,61 +1,32 @@
-use Rattle.std.proofs.Common.{◌≡◌, ℕ, ◌+◌, ◌%◌, ◌^◌, refl, subst, ◌∙◌, rules, arith, slice_index, slice_set, List, length, ◌<◌, ◌≤◌, ◌*◌}
+use Rattle.std.proofs.Common.{ℕ, ◌+◌, ◌%◌, ◌^◌, ◌≡◌, ◌<◌, List, ap, arith, length, not, refl, rules, slice_index, slice_set, subst, sym, ◌∙◌}
 use Rattle.std.proofs.lemmas.Grind.{common_steps}
-use Rattle.board_example.proofs.Moving.{moved}
-use Rattle.board_example.proofs.Making.{kept_same, kept_yes, none_after, stood_more}
-use Rattle.board_example.specs.Rules.{IsNext}
-use Rattle.step_rules.specs.declared.plan.Plan.{Plan}
+use Rattle.big_atomic.proofs.Adding.{answered_more, none_after, yes_counts}
+use Rattle.big_atomic.proofs.Missing.{missed_has_seen_more}
+use Rattle.big_atomic.specs.Calls.{IsSwapped}
+use Rattle.board_example.proofs.Making.{counter_fits, kept_same, kept_try}
 use Rattle.board_example.proofs.member.count_once.Goals as goal
 
-is_next : (old : List ℕ) (v : ℕ) → 0 < length old → v ≡ (slice_index old 0 + 1) % 2 ^ 64 → IsNext old (slice_set old 0 v)
-is_next old v l e = grind (arith, common_steps)
+one_more : (old : List ℕ) (v : ℕ) → 0 < length old → v ≡ (slice_index old 0 + 1) % 2 ^ 64 → slice_index (slice_set old 0 v) 0 ≡ (slice_index old 0 + 1) % 2 ^ 64
+one_more old v l e = grind (arith, common_steps)
 
-pub returns-in-Yes : goal.returns-in-Yes
-returns-in-Yes c =
+pub returns : goal.returns
+returns c =
     let w = c.requires.works in
     let l = c.load-old.ensures.loaded in
-    let e = c.in-Yes.ensures.swapped in
+    let e = c.compare_and_swap-answer.ensures.swapped in
+    let old = c.load-old.result in
+    let count = (slice_index old 0 + 1) % 2 ^ 64 in
+    let new = slice_set old 0 count in
+    let next = one_more old count (search rules) refl in
+    let loaded = kept_same w.kept (answered_more l.answered) (tt, tt) refl (ap not (counter_fits old)) in
     record {
       works = record {
-        ready = search rules;
+        ready = c.compare_and_swap-answer.ensures.ready;
         none_held = none_after e.hold (none_after l.hold w.none_held);
-        kept = kept_yes (kept_same w.kept (stood_more l.answered.stood) tt refl refl) (stood_more e.answered.stood)
-            (refl, is_next c.load-old.result ((slice_index c.load-old.result 0 + 1) % 2 ^ 64) (search rules) refl) refl refl;
+        kept = kept_try loaded (answered_more e.answered) (λ _. counter_fits new, λ _. next) c.is_yes.result _ c.more-member.ensures
+            (yes_counts 0 old new c.compare_and_swap-answer.result ∙ sym c.is_yes.ensures) refl;
       };
-      missed = λ e. absurd (cc);
-    }
-
-pub returns-in-No : goal.returns-in-No
-returns-in-No c =
-    let w = c.requires.works in
-    let l = c.load-old.ensures.loaded in
-    let e = c.in-No.ensures.swapped in
-    record {
-      works = record {
-        ready = search rules;
-        none_held = none_after e.hold (none_after l.hold w.none_held);
-        kept = kept_same (kept_same w.kept (stood_more l.answered.stood) tt refl refl) (stood_more e.answered.stood)
-            (refl, is_next c.load-old.result ((slice_index c.load-old.result 0 + 1) % 2 ^ 64) (search rules) refl) refl refl;
-      };
-      missed = λ _. record {
-        more = moved c.args.member.now.seat.view.seen c.load-old.new.seat.view.seen c.compare_and_swap.new.seat.view.seen
-            l.answered.stand.place e.answered.stand.place c.load-old.result l.answered.stood.seen e.answered.stood.seen
-            (omega (arith, l.answered.stood.from, l.answered.stood.after)) l.answered.stood.right.place
-            (omega (arith, e.answered.stood.from, e.answered.stood.after)) e.answered.stood.right.place l.there (e.no refl).unlike;
-        within = subst (λ (p : Plan). length c.compare_and_swap.new.seat.view.seen ≤ p.seats * p.changes) (e.answered.stood.plan ∙ (l.answered.stood.plan ∙ w.ready.ours.plan)) e.answered.stood.within;
-      };
-    }
-
-pub returns-in-Full : goal.returns-in-Full
-returns-in-Full c =
-    let w = c.requires.works in
-    let l = c.load-old.ensures.loaded in
-    let e = c.in-Full.ensures.swapped in
-    record {
-      works = record {
-        ready = search rules;
-        none_held = none_after e.hold (none_after l.hold w.none_held);
-        kept = kept_same (kept_same w.kept (stood_more l.answered.stood) tt refl refl) (stood_more e.answered.stood)
-            (refl, is_next c.load-old.result ((slice_index c.load-old.result 0 + 1) % 2 ^ 64) (search rules) refl) refl refl;
-      };
-      missed = λ e. absurd (cc);
+      stays = search rules;
+      missed = λ no. missed_has_seen_more c.args.shared.now 0 old new c.args.member.now.seat c.load-old.new.seat c.compare_and_swap-answer.new.seat w.ready.ours l
+          (subst (λ a. IsSwapped 0 old new a c.load-old.new.seat c.compare_and_swap-answer.new.seat) no e);
     }

@@ -1,30 +1,17 @@
-use Rattle.std.proofs.Common.{true, false, sym, refl, ap, ◌∙◌, not, rules}
-use Rattle.board_example.proofs.Making.{kept_same, kept_torn, none_after, stood_more}
-use Rattle.board_example.proofs.Torn.{load_tells}
+use Rattle.std.proofs.Common.{◌∙◌, ap, not, refl, sym}
+use Rattle.big_atomic.proofs.Adding.{answered_more, none_after}
+use Rattle.board_example.proofs.Making.{fits_elsewhere, kept_reading}
 use Rattle.board_example.proofs.member.read.Goals as goal
 
-pub returns-then-not-whole : goal.returns-then-not-whole
-returns-then-not-whole c =
+pub returns : goal.returns
+returns c =
     let w = c.requires.works in
     let e = c.load-words.ensures.loaded in
-    let torn = load_tells c.args.reg c.load-words.result true c.requires.board (ap (λ b. not b) (sym c.whole.ensures ∙ c.if-not-whole.true)) in
-    record {
+    let m = answered_more e.answered in record {
       works = record {
-        ready = search rules;
+        ready = c.load-words.ensures.ready;
         none_held = none_after e.hold w.none_held;
-        kept = kept_torn w.kept (stood_more e.answered.stood) tt refl torn;
+        kept = kept_reading w.kept m (tt, tt) (not c.whole.result) _ c.more-member.ensures refl (ap not (fits_elsewhere c.args.reg c.load-words.result c.requires.board ∙ sym c.whole.ensures));
       };
-    }
-
-pub returns-else-not-whole : goal.returns-else-not-whole
-returns-else-not-whole c =
-    let w = c.requires.works in
-    let e = c.load-words.ensures.loaded in
-    let whole = load_tells c.args.reg c.load-words.result false c.requires.board (ap (λ b. not b) (sym c.whole.ensures ∙ c.if-not-whole.false)) in
-    record {
-      works = record {
-        ready = search rules;
-        none_held = none_after e.hold w.none_held;
-        kept = kept_same w.kept (stood_more e.answered.stood) tt refl whole;
-      };
+      stays = m.stays;
     }

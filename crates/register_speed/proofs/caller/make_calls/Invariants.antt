@@ -1,5 +1,5 @@
 use Rattle.register_speed.specs.Counting.{HasLoaded}
-use Rattle.speed_runs.specs.Runs.{Stays}
+use Rattle.big_atomic.specs.Seats.{Stays}
 use Rattle.register_speed.proofs.caller.make_calls.Given as goal
 
 abbrev pub invariant-loop-i : goal.invariant-loop-i

@@ -1,6 +1,6 @@
 use Rattle.std.proofs.Common.{◌*◌, ◌-◌, ◌∙◌, ap, arith, length, subst, sym}
 use Rattle.speed_runs.proofs.Ends.{ended}
-use Rattle.speed_runs.proofs.Seats.{long_up}
+use Rattle.step_rules.proofs.Numbers.Sets.{length-count_up}
 use Rattle.step_rules.specs.Layout.{IsPlan}
 use Rattle.step_rules.specs.declared.plan.Plan.{Plan}
 use Rattle.speed_runs.proofs.runs.finish.Goals as goal
@@ -15,4 +15,4 @@ returns g c =
     (λ j. (plan j).changes * (c.from.ensures ∙ seats) j - c.changes_left.ensures j)
 
 pub close-closed-requires-clause-whole : goal.close-closed-requires-clause-whole
-close-closed-requires-clause-whole g c = ap length c.requires.whole ∙ (long_up 0 (g.W.Work.plan c.args.work.now).seats ∙ ap (λ (p : Plan). p.seats) (sym c.requires.plan))
+close-closed-requires-clause-whole g c = ap length c.requires.whole ∙ (length-count_up 0 (g.W.Work.plan c.args.work.now).seats ∙ ap (λ (p : Plan). p.seats) (sym c.requires.plan))

@@ -1,0 +1,12 @@
+use Rattle.std.proofs.Common.{◌∙◌, slice_index_or, subst, sym}
+use Rattle.big_atomic.proofs.Jobs.{if_ok, seats_back}
+use Rattle.big_atomic.specs.Seats.{Stays}
+use Rattle.board_example.specs.declared.member.Member.{Member}
+use Rattle.step_rules.specs.SeatData.{SeatData}
+use Rattle.board_example.proofs.session.take_all.Goals as goal
+
+pub returns-clause-back : goal.returns-clause-back
+returns-clause-back g c = if_ok c.map_vec.result (λ members long each.
+    seats_back (λ (one : Member). one.seat) c.args.seats.items members.items (sym members.ok.0 ∙ (long ∙ c.args.seats.ok.0))
+    (λ i d e l. let k = (each i d l).1 in subst (λ (s : SeatData). Stays s (slice_index_or members.items i d).seat) (sym (k.job_is e)) k.call.met.1))
+    c.map_vec.ensures.len c.map_vec.ensures.each
