@@ -9,7 +9,7 @@ use Rattle.big_atomic.proofs.Paid.{exchanges-append, scan_loads-append}
 use Rattle.big_atomic.specs.Calling.{Goes, HasClaim, HasClaimed, HasSeen}
 use Rattle.big_atomic.specs.Calls.{IsQuiet}
 use Rattle.big_atomic.specs.Ready.{IsReady}
-use Rattle.cache_hash.proofs.Walking.{Lost, Part, Way, cleared_part, come_way, moved_lost, way_kept}
+use Rattle.cache_hash.proofs.Walking.{Lost, OnlyLooks, Way, cleared_part, come_way, moved_lost, way_kept}
 use Rattle.cache_hash.specs.Calls.{IsFound, find_reply, value_at as value_here}
 use Rattle.cache_hash.specs.Finding.{Finding, KnowsValue}
 use Rattle.chain_links.proofs.Passing.{back_claim, kept_back}
@@ -57,7 +57,7 @@ finding_first cell word before now s = record {
   own = s.stays.others OWN (λ e. absurd (omega arith));
 }
 
-pub finding_on : (cell : ℕ) (b : List Counted) (before mid now : SeatData) → Finding cell before mid → Part cell b mid now → Finding cell before now
+pub finding_on : (cell : ℕ) (b : List Counted) (before mid now : SeatData) → Finding cell before mid → OnlyLooks cell b mid now → Finding cell before now
 finding_on cell b before mid now f p = record {
   steps = f.steps ++ b;
   look = f.look;
@@ -70,7 +70,7 @@ finding_on cell b before mid now f p = record {
   own = p.own ∙ f.own;
 }
 
-pub seen_part : (cell word : ℕ) (mid now : SeatData) → (s : HasSeen BACK cell word mid now) → Part cell s.steps mid now
+pub seen_part : (cell word : ℕ) (mid now : SeatData) → (s : HasSeen BACK cell word mid now) → OnlyLooks cell s.steps mid now
 seen_part cell word mid now s = record {
   goes = s.goes (Some (length mid.view.seen));
   looks = s.looks;

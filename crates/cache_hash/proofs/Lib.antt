@@ -1,6 +1,9 @@
+mod Ended
 mod Finding
+mod Fronted
+mod Keyed
+mod Making
 mod Progress
-mod PuttingIn
 mod Told
 mod Turning
 mod Walking

@@ -1,23 +1,26 @@
--- Further steps of an insert.
+-- Further steps of a change.
 use Rattle.std.proofs.Common.{◌≡◌, ◌∙◌, ℕ, ◌*◌, ◌<◌, ◌≤◌, Bool, true, false, List, [], ◌++◌, Some, length, take, filter, append_assoc, sym, ap, subst, arith}
 use Rattle.std.proofs.lemmas.Bool.{false≢true}
 use Rattle.std.proofs.lemmas.List.{take-append-le}
 use Rattle.big_atomic.proofs.Answered.{goes_of}
 use Rattle.big_atomic.proofs.Goings.{goes_then, held_stays, looked_then}
 use Rattle.big_atomic.proofs.Paid.{exchanges-append, scan_loads-append}
-use Rattle.big_atomic.proofs.Scanning.{own_words, own_words_later, scan_all, scan_goes, scan_view, scanned_now}
+use Rattle.big_atomic.proofs.Scanning.{own_words, own_words_later, scan_all, scan_goes, scan_tried, scan_view, scanned_now}
 use Rattle.big_atomic.proofs.Shortage.{hold_word}
 use Rattle.big_atomic.specs.Calling.{Goes}
 use Rattle.big_atomic.specs.Turns.{exchanges, scan_loads}
-use Rattle.cache_hash.proofs.Walking.{Part}
-use Rattle.cache_hash.specs.Calls.{NeedsNodes, WantsNodes}
-use Rattle.cache_hash.specs.Inserting.{Inserting, Scans}
+use Rattle.cache_hash.proofs.Keyed.{keeps_same, keeps_then}
+use Rattle.cache_hash.proofs.Walking.{OnlyLooks}
+use Rattle.cache_hash.specs.Asking.{NeverChanges, call_for}
+use Rattle.cache_hash.specs.Calls.{KeepsFree, NeedsNodes, WantsNodes}
+use Rattle.cache_hash.specs.Changing.{Changing, Scans}
+use Rattle.cache_hash.specs.declared.asked.Change.{Change}
 use Rattle.hazard_claims.specs.Scanning.{IsScan, names}
 use Rattle.seat_history.proofs.Histories.{state_at-append}
 use Rattle.seat_history.specs.Contents.{Contents}
 use Rattle.seat_history.specs.History.{state_at}
-use Rattle.seat_history.specs.Key.{key_number}
-use Rattle.seat_history.specs.declared.call.Call.TheVariants.{Insert}
+use Rattle.seat_history.specs.Change.{is_change}
+use Rattle.seat_history.specs.declared.call.Call.{Call}
 use Rattle.seat_history.specs.declared.entry.Entry.{Entry}
 use Rattle.seat_history.specs.declared.key.KeyWords.{KeyWords}
 use Rattle.step_rules.proofs.Line.Trails.{longer_seen}
@@ -37,17 +40,15 @@ use Rattle.step_rules.specs.declared.view.Counted.{Counted}
 use Rattle.step_rules.specs.declared.view.View.{View}
 
 -- WHAT WAS NEEDED stays so as more is seen
-pub needs_more : {key : KeyWords} {val : List ℕ} {place need : ℕ} {v : View} (w : View) → place ≤ length v.seen → GoesOn v.seen w.seen → w.plan ≡ v.plan
-    → NeedsNodes key val place need v → NeedsNodes key val place need w
-needs_more {key} {val} {place} {need} {v} w within on plan n =
+pub needs_more : {call : Call} {place need : ℕ} {v : View} (w : View) → place ≤ length v.seen → GoesOn v.seen w.seen → w.plan ≡ v.plan → NeedsNodes call place need v → NeedsNodes call place need w
+needs_more {call} {place} {need} {v} w within on plan n =
     let front : take place w.seen ≡ take place v.seen = ap (take place) on.1 ∙ take-append-le place v.seen on.0 within in
     let contents = ap (λ (l : List Entry). state_at l place) on.1 ∙ state_at-append v.seen on.0 place within in record {
-      absent = ap (λ (c : Contents). c.values (key_number key)) contents ∙ n.absent;
-      needs = subst (λ (rs : List (List ℕ)). Needs rs (Insert key val) need) (λ i. records_at (sym plan i) (sym front i) (cell_of (sym plan i) (Insert key val))) n.needs;
+      changes = ap (λ (c : Contents). is_change c call) contents ∙ n.changes;
+      needs = subst (λ (rs : List (List ℕ)). Needs rs call need) (λ i. records_at (sym plan i) (sym front i) (cell_of (sym plan i) call)) n.needs;
     }
 
-pub wants_more : {key : KeyWords} {val : List ℕ} {look : ℕ} {before : SeatData} {v : View} (w : View) → GoesOn v.seen w.seen → w.plan ≡ v.plan
-    → WantsNodes key val look before v → WantsNodes key val look before w
+pub wants_more : {call : Call} {look : ℕ} {before : SeatData} {v : View} (w : View) → GoesOn v.seen w.seen → w.plan ≡ v.plan → WantsNodes call look before v → WantsNodes call look before w
 wants_more {v = v} w on plan n =
     let within = n.within in
     let longer = longer_seen v.seen w.seen on in
@@ -66,7 +67,7 @@ scanned_more w b least held hold plan s = record {
 }
 
 -- MORE STEPS of the call, none of a scan, after which the seat holds no node
-pub record Onward (cell : ℕ) (b : List Counted) (mid now : SeatData) : Type 0 where
+pub record Onward (key : KeyWords) (change : Change) (cell : ℕ) (b : List Counted) (mid now : SeatData) : Type 0 where
   pub goes : Goes cell (Some (length mid.view.seen)) b mid now
   pub idle : mid.holding ≡ [] → now.holding ≡ []
   pub used : now.fresh ≡ false
@@ -74,14 +75,15 @@ pub record Onward (cell : ℕ) (b : List Counted) (mid now : SeatData) : Type 0 
   pub own : (claim_of OWN mid.view).word ≡ 0 → (claim_of OWN now.view).word ≡ 0
   pub retired : now.view.retired ≡ mid.view.retired
   pub none_scanned : scan_loads b ≡ 0
-  pub free : exchanges b ≡ 0 → now.free ≡ mid.free
+  pub free : exchanges b ≡ 0 → KeepsFree (call_for key change) mid.free now.free
+  pub never : NeverChanges change → exchanges b ≡ 0
 
-pub scans_on : {cell : ℕ} {b : List Counted} {mid now : SeatData} (scanned : Bool) (key : KeyWords) (val : List ℕ) (steps : List Counted) (look : ℕ) (before : SeatData)
-    → Sound mid.view → Onward cell b mid now → Scans scanned key val steps look before mid → Scans scanned key val (steps ++ b) look before now
-scans_on {b = b} false key val steps look before sound o s =
+pub scans_on : {key : KeyWords} {change : Change} {cell : ℕ} {b : List Counted} {mid now : SeatData} (scanned : Bool) (call : Call) (steps : List Counted) (look : ℕ) (before : SeatData)
+    → Sound mid.view → Onward key change cell b mid now → Scans scanned call steps look before mid → Scans scanned call (steps ++ b) look before now
+scans_on {b = b} false call steps look before sound o s =
     let none = o.none_scanned in
     let none_before = s.none in record { none = omega (arith, scan_loads-append steps b); retired = o.retired ∙ s.retired }
-scans_on {b = b} {now = now} true key val steps look before sound o s =
+scans_on {b = b} {now = now} true call steps look before sound o s =
     let none = o.none_scanned in
     let all = s.all in
     let few = s.few in record {
@@ -92,8 +94,8 @@ scans_on {b = b} {now = now} true key val steps look before sound o s =
       want = wants_more now.view o.goes.seen (ap (λ (z : View). z.plan) o.goes.only) s.want;
     }
 
-module _ {shared : ObjectData} {key : KeyWords} {val : List ℕ} {cell : ℕ} {scanned : Bool} {before mid : SeatData} (i : Inserting shared key val cell scanned before mid) where
-  abbrev pub going_on : {b : List Counted} {now : SeatData} → Onward cell b mid now → Inserting shared key val cell scanned before now
+module _ {shared : ObjectData} {key : KeyWords} {change : Change} {cell : ℕ} {scanned : Bool} {before mid : SeatData} (i : Changing shared key change cell scanned before mid) where
+  abbrev pub going_on : {b : List Counted} {now : SeatData} → Onward key change cell b mid now → Changing shared key change cell scanned before now
   going_on {b} {now} o = record {
     begins = i.begins;
     steps = i.steps ++ b;
@@ -104,16 +106,18 @@ module _ {shared : ObjectData} {key : KeyWords} {val : List ℕ} {cell : ℕ} {s
     used = o.used;
     hold = o.hold ∙ i.hold;
     own = o.own i.own;
-    scans = scans_on scanned key val i.steps i.look before i.goes.sound o i.scans;
-    untouched = λ none none_tried. let both = exchanges-append i.steps b in o.free (omega arith) ∙ i.untouched none (omega arith);
+    scans = scans_on scanned (call_for key change) i.steps i.look before i.goes.sound o i.scans;
+    untouched = λ none none_tried.
+        let both = exchanges-append i.steps b in keeps_then (call_for key change) before.free mid.free now.free (i.untouched none (omega arith)) (o.free (omega arith));
+    never = λ never. let none_before = i.never never in let none_after = o.never never in omega (arith, exchanges-append i.steps b);
   }
 
   pub going_of : IsOf shared mid
   going_of = goes_of i.goes i.begins.ready.ours
 
 -- looks and loads
-pub part_onward : {cell : ℕ} {b : List Counted} {mid now : SeatData} → Part cell b mid now → Onward cell b mid now
-part_onward p = record {
+pub looks_onward : {cell : ℕ} {b : List Counted} {mid now : SeatData} (key : KeyWords) (change : Change) → OnlyLooks cell b mid now → Onward key change cell b mid now
+looks_onward key change p = record {
   goes = p.goes;
   idle = λ idle. ap (λ (z : SeatData). z.holding) p.same ∙ idle;
   used = ap (λ (z : SeatData). z.fresh) p.same;
@@ -121,11 +125,12 @@ part_onward p = record {
   own = λ none. ap (λ (x : Claim). x.word) p.own ∙ none;
   retired = p.retired;
   none_scanned = p.looks.none_scanned;
-  free = λ _. ap (λ (z : SeatData). z.free) p.same;
+  free = λ _. keeps_same (call_for key change) (ap (λ (z : SeatData). z.free) p.same);
+  never = λ _. p.looks.none_exchanged;
 }
 
 -- A SCAN, for want of nodes
-module _ {shared : ObjectData} {key : KeyWords} {val : List ℕ} {cell : ℕ} {before mid now : SeatData} (i : Inserting shared key val cell false before mid) (s : IsScan mid now)
+module _ {shared : ObjectData} {key : KeyWords} {change : Change} {cell : ℕ} {before mid now : SeatData} (i : Changing shared key change cell false before mid) (s : IsScan mid now)
     (law : IsSeat mid) (last : IsSeat now) where
   -- no node was retired so far, so as many are free as at first
   free_still : length mid.free ≡ length before.free
@@ -135,8 +140,8 @@ module _ {shared : ObjectData} {key : KeyWords} {val : List ℕ} {cell : ℕ} {b
       let first = i.begins.ready.law.long in
       omega (arith, ap (length {A = ℕ}) i.idle, ap (length {A = ℕ}) i.begins.ready.idle, ap (length {A = ℕ}) i.scans.retired)
 
-  pub after_scan : {need : ℕ} → (claim_of BACK mid.view).stands ≡ true → NeedsNodes key val (length mid.view.seen) need mid.view → length mid.free < need
-      → Inserting shared key val cell true before now
+  pub after_scan : {need : ℕ} → (claim_of BACK mid.view).stands ≡ true → NeedsNodes (call_for key change) (length mid.view.seen) need mid.view → length mid.free < need
+      → Changing shared key change cell true before now
   after_scan {need} back needs few =
       let view = scan_view s law last in
       let g : Goes cell (Some (length mid.view.seen)) (s.clear ++ s.loads) mid now = scan_goes s law last cell in
@@ -167,4 +172,5 @@ module _ {shared : ObjectData} {key : KeyWords} {val : List ℕ} {cell : ℕ} {b
           });
         };
         untouched = λ e. absurd (false≢true (sym e));
+        never = λ never. let none_before = i.never never in omega (arith, exchanges-append i.steps (s.clear ++ s.loads), scan_tried s law last);
       }

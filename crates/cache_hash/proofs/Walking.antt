@@ -1,13 +1,14 @@
 -- The steps of a walk as those of a call.
-use Rattle.std.proofs.Common.{◌≡◌, ◌∙◌, ℕ, ◌+◌, ◌/◌, ◌≤◌, suc, zero, false, not, eq-eqb, List, [], ◌∷◌, ◌++◌, Some, length, drop, refl, sym, ap, subst, arith, inl, inr}
+use Rattle.std.proofs.Common.{◌≡◌, ◌∙◌, ℕ, ◌+◌, ◌/◌, ◌<◌, ◌≤◌, suc, zero, Bool, true, false, not, cond, eq-eqb, ne_eqb, List, [], ◌∷◌, ◌++◌, Some, length, drop, refl, sym, ap, subst, arith, inl, inr}
 use Rattle.std.proofs.Math.ListN.{drop_of_length-le}
 use Rattle.std.proofs.lemmas.List.{get_or-set_other, get_or-set_same}
 use Rattle.big_atomic.proofs.Claimed.{loads_still, loads_unscanned, looks_then, none_later, read_goes}
 use Rattle.big_atomic.proofs.Goings.{LooksAt, goes_look, goes_lost, goes_none, goes_still, goes_then, looks_at, moved_since}
-use Rattle.big_atomic.proofs.Paid.{still_exchanges}
+use Rattle.big_atomic.proofs.Paid.{lost-append, still_exchanges}
 use Rattle.big_atomic.specs.Calling.{AreLooks, Goes, HasClaim, HasFound, OnlySteps}
+use Rattle.big_atomic.specs.Turns.{is_lost, lost_steps}
 use Rattle.chain_links.proofs.Passing.{Kept, announced_kept, announced_names, back_claim, claim_at_low, come_sound, kept_back, passed_kept, read_kept, rechecked_kept}
-use Rattle.chain_links.specs.Walking.{HasBack, HasCome, HasMoved, HasPassed}
+use Rattle.chain_links.specs.Walking.{HasBack, HasCome, HasMoved, HasPassed, HasStrayed}
 use Rattle.hazard_claims.specs.Claiming.{IsAnnounced}
 use Rattle.hazard_claims.specs.declared.claims.Claim.TheVariants.{Walk}
 use Rattle.hazard_claims.specs.Scanning.{ClearsWalk}
@@ -30,7 +31,7 @@ use Rattle.step_rules.specs.declared.view.Kind.TheVariants.{ClaimClear, ClaimSto
 use Rattle.step_rules.specs.declared.view.View.{View}
 
 -- looks and loads that leave the seat's lists, but for the links noted, and its claims on Own and Hold
-pub record Part (cell : ℕ) (steps : List Counted) (old now : SeatData) : Type 0 where
+pub record OnlyLooks (cell : ℕ) (steps : List Counted) (old now : SeatData) : Type 0 where
   pub goes : Goes cell (Some (length old.view.seen)) steps old now
   pub looks : AreLooks steps
   pub same : OnlyStepped old now
@@ -38,8 +39,8 @@ pub record Part (cell : ℕ) (steps : List Counted) (old now : SeatData) : Type 
   pub hold : claim_of HOLD now.view ≡ claim_of HOLD old.view
   pub own : claim_of OWN now.view ≡ claim_of OWN old.view
 
-pub part_then : (cell : ℕ) (a b : List Counted) (u v w : SeatData) → Part cell a u v → Part cell b v w → Part cell (a ++ b) u w
-part_then cell a b u v w p q = record {
+pub only_looks_then : (cell : ℕ) (a b : List Counted) (u v w : SeatData) → OnlyLooks cell a u v → OnlyLooks cell b v w → OnlyLooks cell (a ++ b) u w
+only_looks_then cell a b u v w p q = record {
   goes = goes_then p.goes q.goes;
   looks = looks_then a b p.looks q.looks;
   same = only_stepped_then u v w p.same q.same;
@@ -48,7 +49,7 @@ part_then cell a b u v w p q = record {
   own = q.own ∙ p.own;
 }
 
-read_part : (cell node : ℕ) (words : List ℕ) (old now : SeatData) → IsRead node words old now → Sound now.view → Part cell (load_steps node 0 words (length old.view.seen)) old now
+read_part : (cell node : ℕ) (words : List ℕ) (old now : SeatData) → IsRead node words old now → Sound now.view → OnlyLooks cell (load_steps node 0 words (length old.view.seen)) old now
 read_part cell node words old now r sound =
     let steps = load_steps node 0 words (length old.view.seen) in record {
       goes = read_goes cell node words old now r sound;
@@ -65,7 +66,7 @@ read_part cell node words old now r sound =
 abbrev announce_step : ℕ → SeatData → Counted
 announce_step link old = counted (ClaimStore WALK link) (link + 1) (length old.view.seen)
 
-announce_part : (cell link : ℕ) (old now : SeatData) → IsAnnounced Walk link old now → Sound now.view → Part cell (announce_step link old ∷ []) old now
+announce_part : (cell link : ℕ) (old now : SeatData) → IsAnnounced Walk link old now → Sound now.view → OnlyLooks cell (announce_step link old ∷ []) old now
 announce_part cell link old now a sound =
     let view : now.view ≡ announced_view WALK link old.view = ap (λ (z : SeatData). z.view) a in record {
       goes = goes_still cell (announce_step link old ∷ []) old now (subst (λ (z : View). OnlySteps old.view z) (sym view) refl)
@@ -100,7 +101,7 @@ module _ (cell seen found link : ℕ) (old now : SeatData) (near : found / 2 ≡
     sound = sound;
   }
 
-  recheck_part : Part cell (recheck_step ∷ []) old now
+  recheck_part : OnlyLooks cell (recheck_step ∷ []) old now
   recheck_part = record {
     goes = goes_look (Some (length old.view.seen)) look (ap not (eq-eqb (found / 2) (seen / 2) near));
     looks = record { none_exchanged = refl; none_scanned = refl };
@@ -129,7 +130,7 @@ walk_falls cell seen found word link old now walks sound b last =
 -- since the Back claim began to stand
 pub record Way (cell seen first : ℕ) (old now : SeatData) : Type 0 where
   pub steps : List Counted
-  pub part : Part cell steps old now
+  pub part : OnlyLooks cell steps old now
   pub back : claim_of BACK now.view ≡ claim_of BACK old.view
   pub noted : now.noted ≡ old.noted
   pub word : ℕ
@@ -156,42 +157,60 @@ way_first cell seen word node words old now claim near r sound = record {
       ∙ (ap (λ n. drop n old.view.seen) claim.now_at ∙ drop_of_length-le old.view.seen (omega arith)))) tt;
 }
 
--- one more link
-way_on : (cell seen first : ℕ) (page : Held) (old mid now : SeatData) → Way cell seen first old mid → Sound mid.view → HasBack cell old.view → HasPassed cell seen page mid now
-    → Way cell seen first old now
-way_on cell seen first page old mid now w sound b h =
-    let naming = announced_names page.node mid h.announced sound h.announces in
+-- one more link was passed: its steps, and the word found in the cell, which has Back's node, its mark at most cleared since the word found last
+pub record PassedLink (cell seen : ℕ) (old now : SeatData) : Type 0 where
+  pub steps : List Counted
+  pub part : OnlyLooks cell steps old now
+  pub word : ℕ
+  pub found : HasFound cell word now.view
+  pub near : word / 2 ≡ seen / 2
+  pub fell : (last : ℕ) → HasFound cell last old.view → word ≤ last
+  pub calm : NoneOn now.view.plan cell (drop (claim_of BACK now.view).at now.view.seen)
+
+pub link_passed : (cell seen : ℕ) (page : Held) (old now : SeatData) → Sound old.view → HasBack cell old.view → HasPassed cell seen page old now → PassedLink cell seen old now
+link_passed cell seen page old now sound b h =
+    let naming = announced_names page.node old h.announced sound h.announces in
     let r = h.rechecks in
     let walks : Walks cell seen h.found page.node h.announced.view h.rechecked.view = r.answers.1 page.node naming in
     let near : h.found / 2 ≡ seen / 2 = r.answers.0 in
-    let announcing = announce_part cell page.node mid h.announced h.announces h.announced_sound in
+    let announcing = announce_part cell page.node old h.announced h.announces h.announced_sound in
     let second = recheck_part cell seen h.found page.node h.announced h.rechecked near walks r.same h.announced_sound h.rechecked_sound in
     let third = read_part cell page.node page.words h.rechecked now h.reads h.sound in
-    let a : List Counted = announce_step page.node mid ∷ [] in
+    let a : List Counted = announce_step page.node old ∷ [] in
     let c : List Counted = counted (Recheck WALK cell seen) h.found (length h.rechecked.view.seen) ∷ [] in
     let d = load_steps page.node 0 page.words (length h.rechecked.view.seen) in
-    let k = passed_kept cell seen page mid now sound h in
-    let k_announced = announced_kept page.node mid h.announced h.announces in
+    let k_announced = announced_kept page.node old h.announced h.announces in
     let k_rechecked = rechecked_kept cell seen h.found page.node h.announced h.rechecked h.announced_sound naming r in
     let calm : NoneOn h.announced.view.plan cell (drop (claim_of BACK h.announced.view).at walks.log) =
     walks.calm (claim_of BACK h.announced.view) (claim_at_low BACK h.announced.view h.announced_sound (omega arith)) in
     let seen_is : now.view.seen ≡ walks.log = ap (λ (z : SeatData). z.view.seen) h.reads.same ∙ ap (λ (z : View). z.seen) walks.after in
     let back_is : claim_of BACK now.view ≡ claim_of BACK h.announced.view = (read_kept h.reads).back ∙ k_rechecked.back in
     let plan_is : now.view.plan ≡ h.announced.view.plan = (read_kept h.reads).plan ∙ k_rechecked.plan in record {
-      steps = w.steps ++ (a ++ (c ++ d));
-      part = part_then cell w.steps (a ++ (c ++ d)) old mid now w.part
-          (part_then cell a (c ++ d) mid h.announced now announcing (part_then cell c d h.announced h.rechecked now second third));
-      back = k.back ∙ w.back;
-      noted = k.noted ∙ w.noted;
+      steps = a ++ (c ++ d);
+      part = only_looks_then cell a (c ++ d) old h.announced now announcing (only_looks_then cell c d h.announced h.rechecked now second third);
       word = h.found;
       found = ap (λ (z : SeatData). z.view.look) h.reads.same ∙ (recheck_found cell seen h.found page.node h.announced h.rechecked near walks r.same h.announced_sound h.rechecked_sound
           ∙ ap (λ (z : SeatData). Some (look_at cell h.found (length z.view.seen))) (sym h.reads.same));
       near = near;
-      fell =
-          let fell = walk_falls cell seen h.found w.word page.node h.announced h.rechecked walks h.announced_sound
-          (kept_back k_announced (kept_back (way_kept w) b)) (still_found page.node mid h.announced h.announces w.found) in
-          let fell_before = w.fell in omega arith;
+      fell = λ last found. walk_falls cell seen h.found last page.node h.announced h.rechecked walks h.announced_sound (kept_back k_announced b)
+          (still_found page.node old h.announced h.announces found);
       calm = subst (λ (z : Plan × Claim × List Entry). NoneOn z.0 cell (drop z.1.at z.2)) (λ i. (sym plan_is i, sym back_is i, sym seen_is i)) calm;
+    }
+
+way_on : (cell seen first : ℕ) (page : Held) (old mid now : SeatData) → Way cell seen first old mid → Sound mid.view → HasBack cell old.view → HasPassed cell seen page mid now
+    → Way cell seen first old now
+way_on cell seen first page old mid now w sound b h =
+    let p = link_passed cell seen page mid now sound (kept_back (way_kept w) b) h in
+    let k = passed_kept cell seen page mid now sound h in record {
+      steps = w.steps ++ p.steps;
+      part = only_looks_then cell w.steps p.steps old mid now w.part p.part;
+      back = k.back ∙ w.back;
+      noted = k.noted ∙ w.noted;
+      word = p.word;
+      found = p.found;
+      near = p.near;
+      fell = let fell = p.fell w.word w.found in let fell_before = w.fell in omega arith;
+      calm = p.calm;
     }
 
 pub come_way : (cell seen word n : ℕ) (old now : SeatData) → HasClaim BACK cell word old → word / 2 ≡ seen / 2 → HasBack cell old.view → HasCome cell seen n old now → Way cell seen word old now
@@ -199,24 +218,24 @@ come_way cell seen word zero old now claim near b h = way_first cell seen word h
 come_way cell seen word (suc n) old now claim near b h =
     way_on cell seen word h.1 old h.0 now (come_way cell seen word n old h.0 claim near b h.2) (come_sound cell seen n old h.0 h.2) b h.4
 
--- a walk that was lost: since it began the history has an entry on the cell
+-- looks that were lost: since they began the history has an entry on the cell
 pub record Lost (cell : ℕ) (old now : SeatData) : Type 0 where
   pub steps : List Counted
-  pub part : Part cell steps old now
+  pub part : OnlyLooks cell steps old now
+  pub some_lost : 0 < lost_steps steps
   pub changed : ¬ NoneOn now.view.plan cell (drop (length old.view.seen) now.view.seen)
 
-pub moved_lost : (cell seen word : ℕ) (old now : SeatData) → HasClaim BACK cell word old → word / 2 ≡ seen / 2 → HasBack cell old.view → HasMoved cell seen old now → Lost cell old now
-moved_lost cell seen word old now claim near b m =
-    let s = m.strayed in
-    let w = come_way cell seen word m.passed old m.mid claim near b m.come in
-    let a : List Counted = announce_step m.page.node m.mid ∷ [] in
+-- a link was announced, and another node found
+pub strayed_lost : (cell seen word link : ℕ) (old now : SeatData) → HasFound cell word old.view → word / 2 ≡ seen / 2 → HasStrayed cell seen link old now → Lost cell old now
+strayed_lost cell seen word link old now last near s =
+    let a : List Counted = announce_step link old ∷ [] in
     let c : List Counted = counted (Recheck WALK cell seen) s.found (length now.view.seen) ∷ [] in
-    let first = announce_part cell m.page.node m.mid s.announced s.announces s.announced_sound in
+    let first = announce_part cell link old s.announced s.announces s.announced_sound in
     let sees : Sees (Recheck WALK cell seen) cell s.found s.announced now = record { looks = s.rechecks.answers.1; same = s.rechecks.same } in
-    let found : HasFound cell w.word s.announced.view = still_found m.page.node m.mid s.announced s.announces w.found in
-    let moved : ¬ NoneOn s.announced.view.plan cell (drop (length s.announced.view.seen) now.view.seen) = moved_since sees found (λ e. s.rechecks.answers.0 (e ∙ w.near)) in
+    let found : HasFound cell word s.announced.view = still_found link old s.announced s.announces last in
+    let moved : ¬ NoneOn s.announced.view.plan cell (drop (length s.announced.view.seen) now.view.seen) = moved_since sees found (λ e. s.rechecks.answers.0 (e ∙ near)) in
     let view = sees.looks.after in
-    let second : Part cell c s.announced now = record {
+    let second : OnlyLooks cell c s.announced now = record {
       goes = goes_lost (looks_at (eq-eqb cell cell refl) sees s.announced_sound s.sound) moved;
       looks = record { none_exchanged = refl; none_scanned = refl };
       same = only_stepped s.announced now s.rechecks.same;
@@ -224,18 +243,29 @@ moved_lost cell seen word old now claim near b m =
       hold = ap (λ (z : View). claim_of HOLD z) view;
       own = ap (λ (z : View). claim_of OWN z) view;
     } in
-    let whole : Part cell (w.steps ++ (a ++ c)) old now = part_then cell w.steps (a ++ c) old m.mid now w.part (part_then cell a c m.mid s.announced now first second) in
-    let before : Goes cell (Some (length old.view.seen)) (w.steps ++ a) old s.announced = (part_then cell w.steps a old m.mid s.announced w.part first).goes in record {
-      steps = w.steps ++ (a ++ c);
-      part = whole;
-      changed = λ none. moved (subst (λ (p : Plan). NoneOn p cell (drop (length s.announced.view.seen) now.view.seen)) (ap (λ (z : View). z.plan) view)
-          (none_later now.view.plan cell (length old.view.seen) s.announced.view.seen now.view.seen (longer_seen old.view.seen s.announced.view.seen before.seen) (second.goes.seen) none));
+    let strayed : is_lost (counted (Recheck WALK cell seen) s.found (length now.view.seen)) ≡ true = ap not (ne_eqb (s.found / 2) (seen / 2) s.rechecks.answers.0) in
+    let one : lost_steps c ≡ 1 = ap (λ (b : Bool). length (cond b c [])) strayed in record {
+      steps = a ++ c;
+      part = only_looks_then cell a c old s.announced now first second;
+      some_lost = omega (arith, lost-append a c);
+      changed = subst (λ (z : Plan × ℕ). ¬ NoneOn z.0 cell (drop z.1 now.view.seen)) (λ i. (sym (ap (λ (z : View). z.plan) view) i, ap (λ (z : SeatData). length z.view.seen) s.announces i)) moved;
+    }
+
+pub moved_lost : (cell seen word : ℕ) (old now : SeatData) → HasClaim BACK cell word old → word / 2 ≡ seen / 2 → HasBack cell old.view → HasMoved cell seen old now → Lost cell old now
+moved_lost cell seen word old now claim near b m =
+    let w = come_way cell seen word m.passed old m.mid claim near b m.come in
+    let l = strayed_lost cell seen w.word m.page.node m.mid now w.found w.near m.strayed in record {
+      steps = w.steps ++ l.steps;
+      part = only_looks_then cell w.steps l.steps old m.mid now w.part l.part;
+      some_lost = let some = l.some_lost in omega (arith, lost-append w.steps l.steps);
+      changed = λ none. l.changed (none_later now.view.plan cell (length old.view.seen) m.mid.view.seen now.view.seen
+          (longer_seen old.view.seen m.mid.view.seen w.part.goes.seen) l.part.goes.seen none);
     }
 
 -- THE WALK CLAIM ENDS, where its word isn't 0
 pub record Cleared (cell : ℕ) (mid now : SeatData) : Type 0 where
   pub steps : List Counted
-  pub part : Part cell steps mid now
+  pub part : OnlyLooks cell steps mid now
   pub none : (claim_of WALK now.view).word ≡ 0
   pub seen : now.view.seen ≡ mid.view.seen
   pub noted : now.noted ≡ mid.noted

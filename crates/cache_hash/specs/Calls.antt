@@ -1,20 +1,30 @@
 -- What the calls on keys promise.
-use Rattle.std.specs.Prelude.{◌≡◌, ◌≢◌, ◌⊎◌, ℕ, ◌+◌, ◌*◌, ◌<◌, ◌≤◌, Bool, true, false, List, Option, Some, None, length}
-use Rattle.big_atomic.specs.Calls.{Answered, HoldStays, IsFullAnswer, IsQuiet, NodesStay, ScansForWant}
-use Rattle.big_atomic.specs.Turns.{exchanges, scan_loads}
-use Rattle.cache_hash.specs.declared.answers.Insert.{Insert as Answer}
+use Rattle.std.specs.Prelude.{◌≡◌, ◌≢◌, ◌⊎◌, ℕ, ◌+◌, ◌*◌, ◌<◌, ◌≤◌, Bool, true, false, not, is_some, if◌then◌else◌, List, Option, Some, None, length}
+use Rattle.big_atomic.specs.Calls.{Answered, HoldStays, IsFullAnswer, IsQuiet, NodesStay}
+use Rattle.big_atomic.specs.Turns.{exchanges, lost_steps, scan_loads}
+use Rattle.cache_hash.specs.declared.answers.Insert.{Insert as InsertAnswer}
 use Rattle.cache_hash.specs.declared.answers.Insert.TheVariants.{Done as InsertDone, Present as InsertPresent, Full as InsertFull}
+use Rattle.cache_hash.specs.declared.answers.Remove.{Remove as RemoveAnswer}
+use Rattle.cache_hash.specs.declared.answers.Remove.TheVariants.{Gone as RemoveGone, Absent as RemoveAbsent, Full as RemoveFull}
+use Rattle.cache_hash.specs.declared.answers.Replace.{Replace as ReplaceAnswer}
+use Rattle.cache_hash.specs.declared.answers.Replace.TheVariants.{Yes as ReplaceYes, Found as ReplaceFound, Absent as ReplaceAbsent, Full as ReplaceFull}
+use Rattle.seat_history.specs.Change.{is_change}
 use Rattle.seat_history.specs.History.{state_at}
 use Rattle.seat_history.specs.Key.{key_number}
-use Rattle.seat_history.specs.declared.call.Call.TheVariants.{Find, Insert}
+use Rattle.seat_history.specs.Step.{is_same}
+use Rattle.seat_history.specs.declared.call.Call.{Call}
+use Rattle.seat_history.specs.declared.call.Call.TheVariants.{Find, Insert, Remove, Replace}
 use Rattle.seat_history.specs.declared.key.KeyWords.{KeyWords}
 use Rattle.seat_history.specs.declared.reply.Reply.{Reply}
-use Rattle.seat_history.specs.declared.reply.Reply.TheVariants.{Absent, Done, Full, Present, Val}
-use Rattle.step_rules.specs.History.{key_cell}
+use Rattle.seat_history.specs.declared.reply.Reply.TheVariants.{Absent, Done, Found, Full, Gone, Present, Val, Yes}
+use Rattle.step_rules.specs.Bags.{times}
+use Rattle.step_rules.specs.History.{cell_of, key_cell}
+use Rattle.step_rules.specs.Lawful.{is_full}
 use Rattle.step_rules.specs.Order.{Needs}
 use Rattle.step_rules.specs.Records.{found_at}
 use Rattle.step_rules.specs.SeatData.{SeatData}
 use Rattle.step_rules.specs.Views.{stock}
+use Rattle.step_rules.specs.declared.view.Counted.{Counted}
 use Rattle.step_rules.specs.declared.view.View.{View}
 
 -- the key's value at a place, as the seat has seen the history
@@ -34,47 +44,122 @@ pub record IsFound (key : KeyWords) (found : Option (List ℕ)) (before after : 
   pub quiet : IsQuiet answered.steps before after
   pub hold : HoldStays before after
 
+-- at this place the call would change its key's pair, and needs so many nodes by the order of the records in the key's bucket
+pub record NeedsNodes (call : Call) (place need : ℕ) (v : View) : Type 0 where
+  pub changes : is_change (state_at v.seen place) call ≡ true
+  pub needs : Needs (found_at v.plan v.seen place call) call need
+
+-- at a place of the call's, from its first look on, fewer nodes were free than it needed
+pub record WantsNodes (call : Call) (look : ℕ) (before : SeatData) (v : View) : Type 0 where
+  pub place : ℕ
+  pub late : look ≤ place
+  pub within : place ≤ length v.seen
+  pub need : ℕ
+  pub needs : NeedsNodes call place need v
+  pub few : length before.free < need
+
+-- the free nodes are those that were free; a replace and a remove may leave them in another order
+abbrev pub KeepsFree : Call → List ℕ → List ℕ → Type 0
+KeepsFree (Insert key val) old new = new ≡ old
+KeepsFree _ old new = (n : ℕ) → times n new ≡ times n old
+
+-- no node changed hands
+pub record KeepsNodes (call : Call) (before after : SeatData) : Type 0 where
+  pub free : KeepsFree call before.free after.free
+  pub retired : after.view.retired ≡ before.view.retired
+
+-- how often a call tried an exchange; a replace and a remove may give their copy up before that, at a lost step
+abbrev pub tries : Call → List Counted → ℕ
+tries (Insert key val) steps = exchanges steps
+tries _ steps = exchanges steps + lost_steps steps
+
+-- a call that changes its key's pair, or leaves the object as it is, was answered
+pub record IsKeyChange (call : Call) (reply : Reply) (changed : Bool) (before after : SeatData) : Type 0 where
+  pub answered : Answered (cell_of before.view.plan call) call reply before after
+  pub changes : answered.stand.changes ≡ changed
+  pub hold : HoldStays before after
+  -- a scan was made at most once, and only for want of nodes: then the change was tried, or the reply is Full
+  pub scans : (scan_loads answered.steps ≡ 0) ⊎ (WantsNodes call answered.stood.look before after.view × (scan_loads answered.steps ≡ 4 * before.view.plan.seats)
+      × ((is_full reply ≡ true) ⊎ (0 < tries call answered.steps)))
+  -- without an exchange and a scan all nodes were left alone
+  pub kept : exchanges answered.steps ≡ 0 → scan_loads answered.steps ≡ 0 → KeepsNodes call before after
+  -- Full comes after a whole scan of this call, with what is needed at the stand's place
+  pub full : (need free : ℕ) → reply ≡ Full need free → IsFullAnswer need free answered.steps before after × NeedsNodes call answered.stand.place need after.view
+  -- and only to a seat that has fewer nodes than there are claim words and nodes needed
+  pub short : (need free : ℕ) → reply ≡ Full need free → stock before.view < 4 * before.view.plan.seats + need
+
 -- what an insert's answer says of its stand
-abbrev pub insert_reply : Answer → Reply
+abbrev pub insert_reply : InsertAnswer → Reply
 insert_reply InsertDone = Done
 insert_reply (InsertPresent val) = Present val
 insert_reply (InsertFull need free) = Full need free
 
 -- the key's value at the stand's place
-abbrev pub value_there : Answer → Option (List ℕ)
+abbrev pub value_there : InsertAnswer → Option (List ℕ)
 value_there (InsertPresent val) = Some val
 value_there _ = None
 
 -- a change stands there
-abbrev pub is_done : Answer → Bool
+abbrev pub is_done : InsertAnswer → Bool
 is_done InsertDone = true
 is_done _ = false
 
--- at this place the key is absent, and the insert needs so many nodes: one into an empty bucket, and two beside other records
-pub record NeedsNodes (key : KeyWords) (val : List ℕ) (place need : ℕ) (v : View) : Type 0 where
-  pub absent : value_at v place key ≡ None
-  pub needs : Needs (found_at v.plan v.seen place (Insert key val)) (Insert key val) need
-
--- at a place of the call's, from its first look on, fewer nodes were free than the insert needed
-pub record WantsNodes (key : KeyWords) (val : List ℕ) (look : ℕ) (before : SeatData) (v : View) : Type 0 where
-  pub place : ℕ
-  pub late : look ≤ place
-  pub within : place ≤ length v.seen
-  pub need : ℕ
-  pub needs : NeedsNodes key val place need v
-  pub few : length before.free < need
-
 -- an insert was answered. The answer is by the key's value at the stand's place; Done comes with the change
-pub record IsInserted (key : KeyWords) (val : List ℕ) (answer : Answer) (before after : SeatData) : Type 0 where
-  pub answered : Answered (key_cell before.view.plan (key_number key)) (Insert key val) (insert_reply answer) before after
-  pub there : value_at after.view answered.stand.place key ≡ value_there answer
-  pub changes : answered.stand.changes ≡ is_done answer
-  pub hold : HoldStays before after
-  -- a scan was made at most once, and only for want of nodes: then an exchange was tried, or the answer is Full
-  pub scans : (scan_loads answered.steps ≡ 0) ⊎ ((w : WantsNodes key val answered.stood.look before after.view) × ScansForWant w.need (insert_reply answer) answered.steps before)
+pub record IsInserted (key : KeyWords) (val : List ℕ) (answer : InsertAnswer) (before after : SeatData) : Type 0 where
+  pub change : IsKeyChange (Insert key val) (insert_reply answer) (is_done answer) before after
+  pub there : value_at after.view change.answered.stand.place key ≡ value_there answer
   -- a Present that tried no exchange left all nodes alone
-  pub quiet : (there : List ℕ) → answer ≡ InsertPresent there → exchanges answered.steps ≡ 0 → IsQuiet answered.steps before after
-  -- Full comes after a whole scan of this call, with what is needed at the stand's place
-  pub full : (need free : ℕ) → answer ≡ InsertFull need free → IsFullAnswer need free answered.steps before after × NeedsNodes key val answered.stand.place need after.view
+  pub quiet : (there : List ℕ) → answer ≡ InsertPresent there → exchanges change.answered.steps ≡ 0 → IsQuiet change.answered.steps before after
+  pub removes : after.view.removes ≡ before.view.removes
   -- a seat that has two nodes more than there are claim words is never short of two
   pub enough : 4 * before.view.plan.seats + 1 < stock before.view → (need free : ℕ) → answer ≢ InsertFull need free
+
+-- what a replace's answer says of its stand
+abbrev pub replaced_reply : ReplaceAnswer → Reply
+replaced_reply ReplaceYes = Yes
+replaced_reply (ReplaceFound val) = Found val
+replaced_reply ReplaceAbsent = Absent
+replaced_reply (ReplaceFull need free) = Full need free
+
+-- the key's value at the stand's place, where the old value is this
+abbrev pub value_replaced : List ℕ → ReplaceAnswer → Option (List ℕ)
+value_replaced old (ReplaceFound val) = Some val
+value_replaced old ReplaceAbsent = None
+value_replaced old _ = Some old
+
+-- Yes comes with a change where the two values aren't the same
+abbrev pub is_replaced : List ℕ → List ℕ → ReplaceAnswer → Bool
+is_replaced old new ReplaceYes = not (is_same old new)
+is_replaced old new _ = false
+
+-- a replace was answered, by the key's value at the stand's place
+pub record IsReplaced (key : KeyWords) (old new : List ℕ) (answer : ReplaceAnswer) (before after : SeatData) : Type 0 where
+  pub change : IsKeyChange (Replace key old new) (replaced_reply answer) (is_replaced old new answer) before after
+  pub there : value_at after.view change.answered.stand.place key ≡ value_replaced old answer
+  pub unlike : (val : List ℕ) → answer ≡ ReplaceFound val → val ≢ old
+  -- where the two values are the same no exchange and no scan is made, and so Full doesn't come
+  pub same : old ≡ new → (exchanges change.answered.steps ≡ 0) × (scan_loads change.answered.steps ≡ 0)
+  pub removes : after.view.removes ≡ before.view.removes
+
+-- what a remove's answer says of its stand
+abbrev pub removed_reply : RemoveAnswer → Reply
+removed_reply (RemoveGone val) = Gone val
+removed_reply RemoveAbsent = Absent
+removed_reply (RemoveFull need free) = Full need free
+
+-- the key's value at the stand's place
+abbrev pub HasRemoved : RemoveAnswer → Option (List ℕ) → Type 0
+HasRemoved (RemoveGone val) there = there ≡ Some val
+HasRemoved RemoveAbsent there = there ≡ None
+HasRemoved (RemoveFull need free) there = is_some there ≡ true
+
+-- a change stands there
+abbrev pub is_gone : RemoveAnswer → Bool
+is_gone (RemoveGone val) = true
+is_gone _ = false
+
+-- a remove was answered, by the key's value at the stand's place; Gone comes with the change, and spends a remove
+pub record IsRemoved (key : KeyWords) (answer : RemoveAnswer) (before after : SeatData) : Type 0 where
+  pub change : IsKeyChange (Remove key) (removed_reply answer) (is_gone answer) before after
+  pub there : HasRemoved answer (value_at after.view change.answered.stand.place key)
+  pub removes : after.view.removes + (if is_gone answer then 1 else 0) ≡ before.view.removes

@@ -2,16 +2,22 @@
 #![tactic(auto)]
 
 mod answers;
+mod asked;
 mod cells;
+mod changes;
 mod finds;
 mod inserts;
+mod removes;
+mod replaces;
 #[cfg(test)]
 mod tests;
 mod turns;
 
-pub use answers::Insert;
+pub use answers::{Insert, Remove, Replace};
 pub use finds::find;
 pub use inserts::insert;
+pub use removes::remove;
+pub use replaces::replace;
 // All that a user needs beside the calls.
 pub use big_atomic::{
     Building, Closed, Counts, NoMemory, Plan, Seat, Shared, TooLarge, build, join_all, split_all,

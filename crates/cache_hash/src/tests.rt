@@ -1,13 +1,15 @@
-//! What finds and inserts answer on small objects.
+//! What the calls answer on small objects.
 ghost use Rattle.std.specs.Prelude.{◌≡◌, ◌<◌, true, length, IfOk};
 ghost use Rattle.big_atomic.specs.Ready.{IsReady};
 ghost use Rattle.step_rules.specs.Layout.{IsPlan};
 ghost use Rattle.step_rules.specs.SeatData.{IsOf};
 
+mod scripts;
 mod threads;
 
 use crate::{
-    Closed, Insert, KeyWords, Plan, Seat, Shared, VALUE_WIDTH, ValWords, build, find, insert,
+    Closed, Insert, KeyWords, Plan, Remove, Replace, Seat, Shared, VALUE_WIDTH, ValWords, build,
+    find, insert, remove, replace,
 };
 use hazard_claims::scan;
 use std::alloc::Global;
@@ -79,6 +81,32 @@ fn get(rt: &impl Abort, shared: &Shared, seat: &mut Seat, key: KeyWords) -> Opti
 {
     assert!(rt; 0 < shared.plan().buckets);
     find(shared, seat, key)
+}
+
+fn exchange(
+    rt: &impl Abort,
+    shared: &Shared,
+    seat: &mut Seat,
+    key: KeyWords,
+    old: ValWords,
+    new: ValWords,
+) -> Replace
+    requires ready { IsReady shared.now seat.old }
+    ensures ready { IsReady shared.now seat.new }
+{
+    assert!(rt; 0 < seat.changes_left());
+    assert!(rt; 0 < shared.plan().buckets);
+    replace(shared, seat, key, old, new)
+}
+
+fn take_out(rt: &impl Abort, shared: &Shared, seat: &mut Seat, key: KeyWords) -> Remove
+    requires ready { IsReady shared.now seat.old }
+    ensures ready { IsReady shared.now seat.new }
+{
+    assert!(rt; 0 < seat.changes_left());
+    assert!(rt; 0 < seat.removes_left());
+    assert!(rt; 0 < shared.plan().buckets);
+    remove(shared, seat, key)
 }
 
 // Closes an object.

@@ -1,20 +1,11 @@
-//! What an insert is about, and what its turns come to.
-use crate::answers::Insert;
-use seat_history::{KeyWords, ValWords};
-
-/// The pair that is to be added, and the cell of its key's bucket.
-#[derive(Clone, Copy, Drop)]
-pub(crate) struct Pair {
-    pub(crate) key: KeyWords,
-    pub(crate) val: ValWords,
-    pub(crate) cell: u32,
-}
+//! What a turn of a change comes to.
+use crate::asked::Told;
 
 /// What a turn comes to.
 #[derive(Clone, Copy, Drop)]
 pub(crate) enum Turn {
-    /// The call is answered.
-    Ends(Insert),
+    /// The call has ended.
+    Ends(Told),
     /// The bucket was found to name another node than the claimed one. The call has scanned, or not.
     Moved { scanned: bool },
 }

@@ -1,7 +1,8 @@
 //! What one thread does.
 ghost use Rattle.std.specs.Prelude.{◌≡◌, ◌+◌, ◌<◌, ◌≤◌};
 ghost use Rattle.big_atomic.specs.Ready.{IsReady};
-ghost use Rattle.speed_runs.specs.Runs.{Adds, HasCome, Stays};
+ghost use Rattle.big_atomic.specs.Seats.{Stays};
+ghost use Rattle.speed_runs.specs.Runs.{Adds, HasCome};
 ghost use Rattle.step_rules.specs.Views.{number};
 ghost use Rattle.table_speed.specs.Turns.{IsNext, IsTurn, is_made};
 

@@ -1,26 +1,12 @@
-use Rattle.std.proofs.Common.{rules, subst}
-use Rattle.cache_hash.proofs.Progress.{going_of}
-use Rattle.cache_hash.proofs.Turning.{begins_insert, first_turn, next_turn, turn_smaller}
-use Rattle.step_rules.specs.Layout.{IsPlan}
+use Rattle.std.proofs.Common.{rules, subst, sym}
+use Rattle.cache_hash.proofs.Ended.{inserted}
+use Rattle.cache_hash.specs.Calls.{IsInserted}
+use Rattle.cache_hash.specs.declared.answers.Insert.{Insert}
 use Rattle.cache_hash.proofs.inserts.insert.Goals as goal
 
-pub bucket_cell-cell-requires-clause-plan : goal.bucket_cell-cell-requires-clause-plan
-bucket_cell-cell-requires-clause-plan c = subst IsPlan c.requires.ready.ours.plan c.requires.ready.law.sound.plan
+pub change-told-requires-clause-wide : goal.change-told-requires-clause-wide
+change-told-requires-clause-wide c = ((search rules, search rules), record { long = search rules; below = λ j. search rules })
 
-pub turns-init : goal.turns-init
-turns-init c = first_turn
-    (begins_insert c.bucket_cell-cell.result c.requires.ready c.requires.some c.requires.left
-    ((search rules, search rules), record { long = search rules; below = λ j. search rules }) c.bucket_cell-cell.ensures.cell)
-    c.claim_node-word.ensures.claimed
-
-pub returns-in-Ends-clause-ready : goal.returns-in-Ends-clause-ready
-returns-in-Ends-clause-ready c = (c.in-Ends.ensures.turned c.args.seat.now c.turns.invariant).0
-
-pub claim_node-word-requires-in-turns-clause-ours : goal.claim_node-word-requires-in-turns-clause-ours
-claim_node-word-requires-in-turns-clause-ours c = going_of (c.in-Moved.ensures.turned c.args.seat.now c.turns.invariant).0.going
-
-pub turns-smaller : goal.turns-smaller
-turns-smaller c = turn_smaller c.turns.invariant (c.in-Moved.ensures.turned c.args.seat.now c.turns.invariant) c.claim_node-word-in-turns.ensures.claimed
-
-pub turns-preserved : goal.turns-preserved
-turns-preserved c = next_turn (c.in-Moved.ensures.turned c.args.seat.now c.turns.invariant).0 c.claim_node-word-in-turns.ensures.claimed
+pub returns-clause-inserted : goal.returns-clause-inserted
+returns-clause-inserted c = subst (λ (answer : Insert). IsInserted c.args.key c.args.val answer c.args.seat.now c.change-told.new.seat) (sym c.insert_told.ensures)
+    (inserted c.change-told.result c.change-told.ensures.ended)

@@ -1,4 +1,5 @@
-use Rattle.speed_runs.specs.Runs.{HasCome, Stays}
+use Rattle.big_atomic.specs.Seats.{Stays}
+use Rattle.speed_runs.specs.Runs.{HasCome}
 use Rattle.table_speed.specs.Turns.{IsNext, is_made}
 use Rattle.table_speed.proofs.caller.make_calls.Given as goal
 

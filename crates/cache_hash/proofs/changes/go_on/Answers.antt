@@ -1,0 +1,14 @@
+use Rattle.cache_hash.proofs.Turning.{is_due, stays_known}
+use Rattle.cache_hash.proofs.changes.go_on.Goals as goal
+
+pub tell-requires : goal.tell-requires
+tell-requires c = record { past = (c.requires.past.0, stays_known c.in-Stays.there c.in-Stays.is c.requires.past.1) }
+
+pub returns-in-Stays : goal.returns-in-Stays
+returns-in-Stays c = record { turned = λ before d. c.tell.ensures.ends before (stays_known c.in-Stays.there c.in-Stays.is d) }
+
+pub make_change-requires : goal.make_change-requires
+make_change-requires c = record { past = (c.requires.past.0, is_due c.in-Changes.due c.in-Changes.is c.requires.past.1) }
+
+pub returns-in-Changes : goal.returns-in-Changes
+returns-in-Changes c = record { turned = λ before d. c.make_change.ensures.turned before (is_due c.in-Changes.due c.in-Changes.is d) }

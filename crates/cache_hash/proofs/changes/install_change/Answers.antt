@@ -1,0 +1,38 @@
+use Rattle.cache_hash.proofs.Making.{gave_up_turn, has_front, lost_turn, made, make_back, make_free, make_place, own_front, own_installed}
+use Rattle.cache_hash.proofs.changes.install_change.Goals as goal
+
+pub copy_front-requires-clause-back : goal.copy_front-requires-clause-back
+copy_front-requires-clause-back c = make_back c.requires.past.1
+
+pub copy_front-requires-clause-place : goal.copy_front-requires-clause-place
+copy_front-requires-clause-place c = make_place c.requires.past.1
+
+pub copy_front-requires-clause-free : goal.copy_front-requires-clause-free
+copy_front-requires-clause-free c = make_free c.requires.past.1
+
+pub returns-in_default : goal.returns-in_default
+returns-in_default c = record { turned = λ before m. gave_up_turn m c.in_default.ensures.copied }
+
+pub install-requires-clause-may : goal.install-requires-clause-may
+install-requires-clause-may c = rw c.call_of-call.ensures (has_front c.requires.past.1 c.in-Ready.ensures.copied c.in-Ready.ensures.law).prepared.may
+
+pub install-requires-clause-front : goal.install-requires-clause-front
+install-requires-clause-front c = rw c.call_of-call.ensures (has_front c.requires.past.1 c.in-Ready.ensures.copied c.in-Ready.ensures.law).prepared.front
+
+pub install-requires-clause-found : goal.install-requires-clause-found
+install-requires-clause-found c = (has_front c.requires.past.1 c.in-Ready.ensures.copied c.in-Ready.ensures.law).prepared.near
+
+pub install-requires-clause-noted : goal.install-requires-clause-noted
+install-requires-clause-noted c = rw c.call_of-call.ensures (has_front c.requires.past.1 c.in-Ready.ensures.copied c.in-Ready.ensures.law).prepared.noted
+
+pub returns-in_default-install : goal.returns-in_default-install
+returns-in_default-install c = record {
+  turned = λ before m. lost_turn (has_front m c.in-Ready.ensures.copied c.in-Ready.ensures.law) c.in_default-install.ensures.installs c.in_default-install.ensures.law;
+}
+
+pub returns : goal.returns
+returns c = record {
+  turned = λ before m.
+      let h = has_front m c.in-Ready.ensures.copied c.in-Ready.ensures.law in
+      made (own_front h) (own_installed m.going.begins c.call_of-call.ensures c.in-Installed.ensures.installs) c.clear_walk.ensures.cleared c.release.ensures.released c.release.ensures.law;
+}

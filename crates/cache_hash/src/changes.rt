@@ -1,0 +1,163 @@
+//! Changes of a key's pair: the turns of inserts, replaces and removes.
+ghost use Rattle.std.specs.Prelude.{◌<◌, ◌≡◌, ◌≤◌};
+ghost use Rattle.big_atomic.specs.Ready.{IsReady};
+ghost use Rattle.cache_hash.specs.Asking.{HasEnded, call_for};
+ghost use Rattle.cache_hash.specs.Changing.{HasDecided, HasTurned, IsAtTurn, IsDue, KnowsEnd, MakesRoom, MayMake};
+ghost use Rattle.step_rules.specs.History.{IsWide};
+ghost use Rattle.step_rules.specs.Records.{removes_of};
+ghost use Rattle.step_rules.specs.SeatData.{IsOf, IsSeat, SeatData};
+
+use crate::asked::{
+    Asked, Change, Decision, Due, Told, call_of, decide_absent, decide_there, reply_told,
+};
+use crate::cells::bucket_cell;
+use crate::turns::Turn;
+use big_atomic::{Install, answer_now, claim_node, install};
+use chain_links::{Front, Walk, copy_front, walk};
+use hazard_claims::{Claim, clear_walk, release, scan};
+use seat_history::KeyWords;
+use step_rules::{Seat, Shared};
+
+/// Makes the change where the key's value says so and enough nodes are free. Each further turn has a
+/// change of another caller to the key's bucket.
+pub(crate) fn change(shared: &Shared, seat: &mut Seat, key: KeyWords, change: Change) -> Told
+    requires ready { IsReady shared.now seat.old }
+    requires some { 0 < shared.now.plan.buckets }
+    requires left { 0 < seat.old.view.changes }
+    requires removes { removes_of (call_for key change) ≤ seat.old.view.removes }
+    requires wide { IsWide (call_for key change) }
+    ensures ready { IsReady shared.now seat.new }
+    ensures ended { HasEnded key change result seat.old seat.new }
+{
+    let cell = bucket_cell(shared, key);
+    let asked = Asked { key, change, cell };
+    let mut word = claim_node(shared, seat, Claim::Back, cell);
+    let mut scanned = false;
+    'turns: loop {
+        match try_change(shared, seat, asked, word, scanned) {
+            Turn::Ends(told) => return told,
+            Turn::Moved { scanned: made } => scanned = made,
+        }
+        word = claim_node(shared, seat, Claim::Back, cell);
+    }
+}
+
+// One turn, with the bucket's node claimed: looks for the key, and goes on as its value says.
+fn try_change(shared: &Shared, seat: &mut Seat, asked: Asked, word: u64, scanned: bool) -> Turn
+    requires past { (before : SeatData) × IsAtTurn shared.now asked.key asked.change asked.cell word scanned before seat.old }
+    ensures turned { (before : SeatData) → IsAtTurn shared.now asked.key asked.change asked.cell word scanned before seat.old
+        → HasTurned shared.now asked.key asked.change asked.cell result before seat.old seat.new }
+{
+    match walk(shared, seat, asked.cell, asked.key) {
+        Walk::Found { at, val } => {
+            let decision = decide_there(asked, at, val);
+            go_on(shared, seat, asked, word, decision, scanned)
+        }
+        Walk::End { length } => {
+            let decision = decide_absent(asked, length);
+            go_on(shared, seat, asked, word, decision, scanned)
+        }
+        Walk::Moved => Turn::Moved { scanned },
+    }
+}
+
+// Ends the call where the object is to stay as it is, and changes it else.
+fn go_on(
+    shared: &Shared,
+    seat: &mut Seat,
+    asked: Asked,
+    word: u64,
+    decision: Decision,
+    scanned: bool,
+) -> Turn
+    requires past { (before : SeatData) × HasDecided shared.now asked.key asked.change asked.cell word decision scanned before seat.old }
+    ensures turned { (before : SeatData) → HasDecided shared.now asked.key asked.change asked.cell word decision scanned before seat.old
+        → HasTurned shared.now asked.key asked.change asked.cell result before seat.old seat.new }
+{
+    match decision {
+        Decision::Stays { there } => {
+            let told = Told::Plain { there };
+            tell(shared, seat, asked, told);
+            Turn::Ends(told)
+        }
+        Decision::Changes { due } => make_change(shared, seat, asked, word, due, scanned),
+    }
+}
+
+// Makes the change where so many nodes are free. Scans first where fewer are, at most once in a call.
+fn make_change(
+    shared: &Shared,
+    seat: &mut Seat,
+    asked: Asked,
+    word: u64,
+    due: Due,
+    scanned: bool,
+) -> Turn
+    requires past { (before : SeatData) × IsDue shared.now asked.key asked.change asked.cell word due scanned before seat.old }
+    ensures turned { (before : SeatData) → IsDue shared.now asked.key asked.change asked.cell word due scanned before seat.old
+        → HasTurned shared.now asked.key asked.change asked.cell result before seat.old seat.new }
+{
+    let made = make_room(shared, seat, due.need, scanned);
+    let free = seat.free();
+    let need = due.need;
+    if free < need {
+        let told = Told::Full { need, free };
+        tell(shared, seat, asked, told);
+        return Turn::Ends(told);
+    }
+    install_change(shared, seat, asked, word, due, made)
+}
+
+// Scans where fewer nodes are free than are needed and the call hasn't scanned yet, and answers whether
+// it has then.
+fn make_room(shared: &Shared, seat: &mut Seat, need: u32, scanned: bool) -> bool
+    requires ours { IsOf shared.now seat.old }
+    requires law { IsSeat seat.old }
+    ensures room { MakesRoom need scanned result seat.old seat.new }
+    ensures law { IsSeat seat.new }
+{
+    if scanned || seat.free() >= need {
+        return scanned;
+    }
+    scan(shared, seat);
+    true
+}
+
+// Copies the front of the claimed chain with the change in it and installs it, where enough nodes are
+// free.
+fn install_change(
+    shared: &Shared,
+    seat: &mut Seat,
+    asked: Asked,
+    word: u64,
+    due: Due,
+    scanned: bool,
+) -> Turn
+    requires past { (before : SeatData) × MayMake shared.now asked.key asked.change asked.cell word due scanned before seat.old }
+    ensures turned { (before : SeatData) → MayMake shared.now asked.key asked.change asked.cell word due scanned before seat.old
+        → HasTurned shared.now asked.key asked.change asked.cell result before seat.old seat.new }
+{
+    let Front::Ready { node } = copy_front(shared, seat, asked.cell, due.edit) else {
+        return Turn::Moved { scanned };
+    };
+    let call = call_of(asked);
+    let Install::Installed = install(shared, seat, asked.cell, word, node, call) else {
+        return Turn::Moved { scanned };
+    };
+    clear_walk(shared, seat);
+    release(shared, seat, Claim::Back);
+    let there = due.there;
+    Turn::Ends(Told::Plain { there })
+}
+
+// Clears Walk and Back, and adds the stand of an end without a change, at the end of what the seat has
+// seen.
+fn tell(shared: &Shared, seat: &mut Seat, asked: Asked, told: Told)
+    requires past { (before : SeatData) × KnowsEnd shared.now asked.key asked.change asked.cell told before seat.old }
+    ensures ends { (before : SeatData) → KnowsEnd shared.now asked.key asked.change asked.cell told before seat.old
+        → IsReady shared.now seat.new × HasEnded asked.key asked.change told before seat.new }
+{
+    clear_walk(shared, seat);
+    let reply = reply_told(asked.change, told);
+    answer_now(shared, seat, call_of(asked), reply);
+}
