@@ -17,7 +17,8 @@ import tempfile
 
 sys.dont_write_bytecode = True  # the repository stays as it was
 import fold
-import plain
+import orders
+import scripts
 
 TOP = os.path.dirname(os.path.dirname(os.path.abspath(__file__)))
 USAGE = (
@@ -61,6 +62,13 @@ class Checks:
             self.is_same(what + ": standard output", ran.stdout, out)
         if "stderr" not in how:
             self.is_same(what + ": standard error", ran.stderr, err.encode())
+
+    def explains(self, what: str, script: bytes, share: int, buckets: int) -> None:
+        """An order of the script's calls explains what the program writes."""
+        words = ["drive", "--share", str(share), "--buckets", str(buckets), self.file("script", script)]
+        ran = subprocess.run([self.program, *words], cwd=self.folder, capture_output=True, timeout=120)
+        self.is_same(f"a script, {what}: status", ran.returncode, 0)
+        self.is_same(f"a script, {what}: an order explains it", orders.is_explained(script, ran.stdout, share, buckets), True)
 
     def is_same(self, what: str, found, wanted) -> None:
         self.made += 1
@@ -150,10 +158,14 @@ def bad_streams(checks: Checks, one: str) -> None:
     os.close(pipe)
 
 
-def scripts(checks: Checks) -> None:
-    """Scripts, called here on a plain object."""
-    for name, script in (("callers", plain.random_script(7, 64, 3_000)), ("pairs", plain.ten_pairs()), ("alone", plain.random_script(8, 1, 400))):
-        checks.ends(f"a script, {name}", ["drive", checks.file(name, script)], 0, plain.text(script))
+def drives(checks: Checks) -> None:
+    """Scripts, whose callers' calls an order must explain on a plain object."""
+    for callers, lines in ((1, 400), (2, 40), (4, 40), (8, 40), (64, 64)):
+        checks.explains(f"{callers} callers", scripts.random_script(callers, callers, lines), 4096, 16)
+    checks.explains("few nodes", scripts.random_script(20, 3, 40), 4, 2)
+    checks.explains("one node each", scripts.random_script(21, 1, 200), 1, 1)
+    checks.explains("swaps of 64 callers", scripts.many_swaps(64, 20), 4096, 16)
+    checks.explains("ten pairs", scripts.ten_pairs(), 64, 1)
     for name, script, line in (
         ("words", b"callers 1\n0 load  1\n", "line 2: words"),
         ("number", b"callers 2\n1 store 0 1,2,03\n", "line 2: number"),
@@ -163,7 +175,7 @@ def scripts(checks: Checks) -> None:
     ):
         checks.ends(f"no script, {name}", ["drive", checks.file("bad_" + name, script)], 9, err=f"flow_tally: script {line}\n")
     longest = b"callers 1\n" + b"0 load 0\n" * 65_536
-    checks.ends("the longest script", ["drive", checks.file("longest", longest)], 0, b"0\n" * 65_536)
+    checks.ends("the longest script", ["drive", checks.file("longest", longest)], 0, b"0\n" * 65_536 + b"nodes 4128 free 4096 live 32\n")
 
 
 def main() -> None:
@@ -177,7 +189,7 @@ def main() -> None:
         bad_words(checks, one)
         bad_files(checks, one, data)
         bad_streams(checks, one)
-        scripts(checks)
+        drives(checks)
     print(f"checks: {checks.made - checks.failed} passed, {checks.failed} failed")
     sys.exit(1 if checks.failed else 0)
 

@@ -1,13 +1,19 @@
 pub mod Decisions
 pub mod Parts
+pub mod Merges
 pub mod Numbers
 pub mod Tuples
 pub mod Zips
+pub mod LineOrders
+pub mod Lasts
+pub mod FromLine
+pub mod ClosedRun
 pub mod Forms
 pub mod Orders
 pub mod Spelled
 pub mod Causes
 pub mod SoFar
+pub mod SomeCourse
 pub mod SomeRun
 pub mod SomeWord
 pub mod SomeCall
@@ -16,3 +22,4 @@ pub mod OneCall
 pub mod OneReading
 pub mod OneRun
 pub mod Texts
+pub mod Turns

@@ -1,7 +1,7 @@
--- An order of lines has one run.
+-- An order of lines has one plain run, and an order and the replies have one run.
 use Rattle.std.specs.List.{AllByRecursion, cons_option, range_with_len}
 use Rattle.std.specs.List.Sorted.{IsPermutation}
-use Rattle.std.proofs.Common.{All, ◌≡◌, ◌∙◌, ℕ, zero, suc, ◌<◌, List, [], ◌∷◌, length, get_or, sym, ap, arith}
+use Rattle.std.proofs.Common.{All, ◌≡◌, ◌∙◌, ℕ, zero, suc, ◌<◌, List, [], ◌∷◌, length, get_or, sym, ap, subst, arith}
 use Rattle.std.proofs.lemmas.List.{ext_get_or}
 use Rattle.std.proofs.lemmas.List.Elements.{All-from_get_or, recursion_from_All}
 use Rattle.std.proofs.lemmas.List.FromFn.{get_or-range_with_len, length-range_with_len}
@@ -10,10 +10,15 @@ use Rattle.std.proofs.lemmas.Option.{slice_get-get_or}
 use Rattle.seat_history.proofs.SamePairs.{same_pairs}
 use Rattle.seat_history.specs.History.{object_from}
 use Rattle.seat_history.specs.Object.{blank_object}
+use Rattle.seat_history.specs.Pairs.{ArePairsOf}
 use Rattle.seat_history.specs.declared.entry.Entry.{Entry}
 use Rattle.seat_history.specs.declared.reply.Reply.TheVariants.{Done}
-use Rattle.call_script.specs.Run.{IsOrderOf, RunsIn, items_at}
+use Rattle.step_rules.specs.Closing.{live_nodes}
+use Rattle.step_rules.specs.declared.plan.Plan.{Plan}
+use Rattle.call_script.specs.PlainRun.{RunsPlainIn}
+use Rattle.call_script.specs.Run.{Course, IsOrderOf, RunsIn, begun, course_from, items_at, made_in, registers_in}
 use Rattle.call_script.specs.declared.driven.Driven.{Driven}
+use Rattle.call_script.specs.declared.driven.PlainRun.{PlainRun}
 
 module _ {X : Type 0} (xs ys : List X) (count : ℕ) (d : X) (long : length xs ≡ count) (also : length ys ≡ count) where
   first_same : (place : ℕ) (order : List ℕ) → place < count → items_at xs (place ∷ order) ≡ items_at ys (place ∷ order)
@@ -40,10 +45,22 @@ module _ {X : Type 0} (xs ys : List X) (count : ℕ) (d : X) (long : length xs �
       let at = Contains-permutation places order i each (i, omega arith, omega (arith, get_or-range_with_len 0 count i i (omega arith))) in
       ap (λ n. get_or xs n d) (sym at.2) ∙ same_at order at.0 i within same at.1 ∙ ap (λ n. get_or ys n d) at.2)
 
-pub one_run_in_order : (order : List ℕ) (lines : List Entry) (a b : Driven) → IsOrderOf lines order → RunsIn order lines a → RunsIn order lines b → a ≡ b
-one_run_in_order order lines a b is first second =
+pub one_plain_run : (order : List ℕ) (lines : List Entry) (a b : PlainRun) → IsOrderOf lines order → RunsPlainIn order lines a → RunsPlainIn order lines b → a ≡ b
+one_plain_run order lines a b is first second =
     let values = (object_from blank_object (items_at lines order)).contents.values in
     let replies = same_items a.replies b.replies (length lines) Done first.each_replied second.each_replied order is.each_once (first.replies ∙ sym second.replies) in
     let registers = first.registers ∙ sym second.registers in
     let pairs = same_pairs values a.pairs b.pairs first.pairs second.pairs first.in_range second.in_range in
     λ i. record { replies = replies i; registers = registers i; pairs = pairs i }
+
+pub one_run : (p : Plan) (order : List ℕ) (lines : List Entry) (a b : Driven) → RunsIn p order lines a → RunsIn p order lines b → a.replies ≡ b.replies → a ≡ b
+one_run p order lines a b first second replies =
+    let same : made_in lines a.replies order ≡ made_in lines b.replies order = ap (λ rs. made_in lines rs order) replies in
+    let end : course_from p begun (made_in lines a.replies order) ≡ course_from p begun (made_in lines b.replies order) = ap (course_from p begun) same in
+    let registers = first.registers ∙ ap (λ (c : Course). registers_in c.object 16) end ∙ sym second.registers in
+    let pairs = same_pairs (course_from p begun (made_in lines b.replies order)).object.contents.values a.pairs b.pairs
+    (subst (λ (c : Course). ArePairsOf c.object.contents.values a.pairs) end first.pairs) second.pairs first.in_range second.in_range in
+    let live : a.counts.live ≡ b.counts.live = first.live ∙ ap (λ (c : Course). live_nodes p c.log) end ∙ sym second.live in
+    let free : a.counts.free ≡ b.counts.free = omega (arith, first.whole, second.whole, live) in
+    let retired : a.counts.retired ≡ b.counts.retired = first.retired ∙ sym second.retired in
+    λ i. record { replies = replies i; registers = registers i; pairs = pairs i; counts = record { free = free i; live = live i; retired = retired i } }

@@ -12,10 +12,11 @@ use Rattle.seat_history.specs.History.{object_from, replies_from}
 use Rattle.seat_history.specs.Object.{blank_object}
 use Rattle.seat_history.specs.Pairs.{ArePairsOf, IsPairInRange}
 use Rattle.seat_history.specs.declared.entry.Entry.{Entry}
-use Rattle.call_script.specs.Run.{IsOrderOf, IsRun, is_line_of, items_at, registers_in}
-use Rattle.call_script.specs.declared.driven.Driven.{Driven}
+use Rattle.call_script.specs.PlainRun.{IsPlainRun}
+use Rattle.call_script.specs.Run.{IsOrderOf, is_line_of, items_at, registers_in}
+use Rattle.call_script.specs.declared.driven.PlainRun.{PlainRun}
 
-get_behind : {X : Type 0} (front : List X) (x : X) (back : List X) → slice_get (front ++ x ∷ back) (length front) ≡ Some x
+pub get_behind : {X : Type 0} (front : List X) (x : X) (back : List X) → slice_get (front ++ x ∷ back) (length front) ≡ Some x
 get_behind [] x back = refl
 get_behind (y ∷ front) x back = get_behind front x back
 
@@ -29,34 +30,34 @@ items_behind front (x ∷ back) =
     rw (get_behind front x back) (ap (λ items. x ∷ items) rest)
 
 -- all items, at their places
-all_items : {X : Type 0} (items : List X) (count : ℕ) → count ≡ length items → items_at items (range_with_len 0 count) ≡ items
+pub all_items : {X : Type 0} (items : List X) (count : ℕ) → count ≡ length items → items_at items (range_with_len 0 count) ≡ items
 all_items items count is = ap (λ n. items_at items (range_with_len 0 n)) is ∙ items_behind [] items
 
-counted_up : (count : ℕ) → IsStrictlyIncreasing (range_with_len 0 count)
+pub counted_up : (count : ℕ) → IsStrictlyIncreasing (range_with_len 0 count)
 counted_up count k within =
     let long = length-range_with_len 0 count in
     omega (arith, get_or-range_with_len 0 count k 0 (omega arith), get_or-range_with_len 0 count (k + 1) 0 (omega arith))
 
-script_order : (lines : List Entry) → IsOrderOf lines (range_with_len 0 (length lines))
+pub script_order : (lines : List Entry) → IsOrderOf lines (range_with_len 0 (length lines))
 script_order lines = record {
   each_once = IsPermutation-refl (range_with_len 0 (length lines));
   rising = λ caller. IsStrictlyIncreasing-filter (is_line_of lines caller) (range_with_len 0 (length lines)) (counted_up (length lines));
 }
 
 -- what comes of the lines in the script's own order
-pub run_in_script_order : (lines : List Entry) (driven : Driven) → driven.replies ≡ replies_from blank_object lines
-    → driven.registers ≡ registers_in (object_from blank_object lines) 16 → ArePairsOf (object_from blank_object lines).contents.values driven.pairs
-    → All IsPairInRange driven.pairs → IsRun lines driven
-run_in_script_order lines driven replies registers pairs in_range =
-    let count : length driven.replies ≡ length lines = ap length replies ∙ length-replies_from blank_object lines in
+pub run_in_script_order : (lines : List Entry) (run : PlainRun) → run.replies ≡ replies_from blank_object lines
+    → run.registers ≡ registers_in (object_from blank_object lines) 16 → ArePairsOf (object_from blank_object lines).contents.values run.pairs
+    → All IsPairInRange run.pairs → IsPlainRun lines run
+run_in_script_order lines run replies registers pairs in_range =
+    let count : length run.replies ≡ length lines = ap length replies ∙ length-replies_from blank_object lines in
     let whole = all_items lines (length lines) refl in (
       range_with_len 0 (length lines),
       script_order lines,
       record {
         each_replied = count;
-        replies = all_items driven.replies (length lines) (sym count) ∙ replies ∙ ap (replies_from blank_object) (sym whole);
+        replies = all_items run.replies (length lines) (sym count) ∙ replies ∙ ap (replies_from blank_object) (sym whole);
         registers = registers ∙ ap (λ (es : List Entry). registers_in (object_from blank_object es) 16) (sym whole);
-        pairs = subst (λ (es : List Entry). ArePairsOf (object_from blank_object es).contents.values driven.pairs) (sym whole) pairs;
+        pairs = subst (λ (es : List Entry). ArePairsOf (object_from blank_object es).contents.values run.pairs) (sym whole) pairs;
         in_range = in_range;
       },
     )

@@ -3,6 +3,8 @@ pub mod Form
 pub mod Holding
 pub mod Line
 pub mod Number
+pub mod PlainRun
+pub mod Row
 pub mod Run
 pub mod Script
 pub mod Spelling

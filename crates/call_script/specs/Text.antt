@@ -1,9 +1,10 @@
 -- What comes of a script, as text.
-use Rattle.std.specs.Prelude.{ℕ, ◌==◌, Bool, List, [], ◌∷◌, ◌++◌, codes, decimal, if◌then◌else◌}
+use Rattle.std.specs.Prelude.{ℕ, ◌+◌, ◌==◌, Bool, List, [], ◌∷◌, ◌++◌, codes, decimal, if◌then◌else◌}
 use Rattle.std.specs.List.{enumerate_from, flat_map, list_all}
 use Rattle.seat_history.specs.declared.key.KeyWords.{KeyWords}
 use Rattle.seat_history.specs.declared.reply.Reply.{Reply}
 use Rattle.seat_history.specs.declared.reply.Reply.TheVariants.{Words, Done, Yes, No, Absent, Val, Present, Found, Gone, Full}
+use Rattle.step_rules.specs.declared.counts.Counts.{Counts}
 use Rattle.call_script.specs.declared.driven.Driven.{Driven}
 
 -- all are zeros
@@ -50,7 +51,12 @@ register_line register =
 unfoldable pub pair_line : KeyWords × List ℕ → List ℕ
 pair_line pair = codes "record " ++ tuple_text (pair.0.k0 ∷ pair.0.k1 ∷ []) ++ 32 ∷ [] ++ tuple_text pair.1 ++ 10 ∷ []
 
--- the replies, the registers and the pairs, each in its order
+-- the line of the nodes, where none is retired: how many there are, and how many of them are free and live
+unfoldable pub nodes_line : Counts → List ℕ
+nodes_line counts =
+    codes "nodes " ++ decimal (counts.free + counts.live) ++ codes " free " ++ decimal counts.free ++ codes " live " ++ decimal counts.live ++ 10 ∷ []
+
+-- the replies, the registers and the pairs, each in its order, and the nodes
 abbrev pub driven_text : Driven → List ℕ
-driven_text driven =
-    flat_map reply_line driven.replies ++ flat_map register_line (enumerate_from 0 driven.registers) ++ flat_map pair_line driven.pairs
+driven_text driven = flat_map reply_line driven.replies ++ flat_map register_line (enumerate_from 0 driven.registers) ++ flat_map pair_line driven.pairs
+    ++ nodes_line driven.counts

@@ -19,11 +19,15 @@ mod tests;
 mod writing;
 
 pub use bad_script::{BadScript, LineCause};
-pub use driven::Driven;
-pub use laws::{lines_have_a_run, order_has_one_run};
+pub use driven::{Driven, PlainRun};
+pub use laws::{
+    callers_take_turns, closed_lines_run, lines_have_a_plain_run, order_has_one_plain_run,
+    replies_tell_the_rest, rows_are_orders, scripts_have_a_run,
+};
 pub use lists::{LineList, RecList, ReplyList};
 pub use plain_run::run_plain;
 pub use reading::read_script;
 pub use script::{MOST_LINES, REGISTERS, Script};
 pub use seat_history::Entry as Line;
+pub use step_rules::Counts;
 pub use writing::write_replies;

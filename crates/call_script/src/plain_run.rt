@@ -1,11 +1,12 @@
 ghost use Rattle.std.specs.Prelude.{◌≡◌, ◌≤◌, ◌<◌, IfOk, OnOk};
-ghost use Rattle.call_script.specs.Run.{IsRun, registers_in};
+ghost use Rattle.call_script.specs.PlainRun.{IsPlainRun};
+ghost use Rattle.call_script.specs.Run.{registers_in};
 ghost use Rattle.call_script.specs.Script.{MayRun};
 ghost use Rattle.seat_history.specs.History.{object_from, replies_from};
 ghost use Rattle.seat_history.specs.Object.{blank_object};
 ghost use Rattle.seat_history.specs.Plain.{object_of, register_count};
 
-use crate::driven::Driven;
+use crate::driven::PlainRun;
 use crate::lists::{RecList, ReplyList};
 use crate::script::{REGISTERS, Script};
 use seat_history::{CALLERS, Entry, Plain, Rec, Reply};
@@ -45,14 +46,14 @@ fn all_registers(alloc: Global, plain: &Plain) -> Result<Vec<Rec>, NoMemory>
 }
 
 /// Calls the lines of a script on the object of one thread.
-pub fn run_plain(alloc: Global, script: &Script) -> Result<Driven, NoMemory>
+pub fn run_plain(alloc: Global, script: &Script) -> Result<PlainRun, NoMemory>
     requires callers { script.now.callers ≤ 64 }
     requires may { MayRun script.now.callers blank_object script.now.lines }
-    ensures { IfOk result (λ driven. IsRun script.now.lines driven) }
+    ensures { IfOk result (λ run. IsPlainRun script.now.lines run) }
 {
     let mut plain = Plain::new(alloc, REGISTERS)?;
     let replies = call_all(alloc, &mut plain, script.callers, script.lines.as_slice())?;
-    Ok(Driven {
+    Ok(PlainRun {
         replies: ReplyList::of_vec(replies),
         registers: RecList::of_vec(all_registers(alloc, &plain)?),
         pairs: plain.pairs(alloc)?,

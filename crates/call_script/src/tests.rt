@@ -1,11 +1,25 @@
-use crate::{BadScript, LineCause, MOST_LINES, read_script, run_plain, write_replies};
+use crate::{
+    BadScript, Counts, Driven, LineCause, MOST_LINES, RecList, ReplyList, read_script, run_plain,
+    write_replies,
+};
+use seat_history::{PairList, Reply};
 use std::alloc::Global;
 use std::test::Fail;
 
-// What a script prints where its lines are called in its order.
-fn printed(alloc: Global, script: &str) -> Result<Vec<u8>, Fail> {
+// What a script prints where its lines are called in its order, and so many nodes are left.
+fn printed(alloc: Global, script: &str, free: u32, live: u32) -> Result<Vec<u8>, Fail> {
     let script = read_script(alloc, script.as_bytes())?;
-    let driven = run_plain(alloc, &script)?;
+    let run = run_plain(alloc, &script)?;
+    let driven = Driven {
+        replies: run.replies,
+        registers: run.registers,
+        pairs: run.pairs,
+        counts: Counts {
+            free,
+            live,
+            retired: 0,
+        },
+    };
     Ok(write_replies(alloc, &driven)?)
 }
 
@@ -14,7 +28,8 @@ static GOOD: [(&str, &str); 6] = [
     ("callers 1", ""),
     ("callers 64\n", ""),
     (
-        "callers 1\n0 swap 3 0 0\n0 store 3 7,0,1\n0 store 3 7,0,1\n0 swap 3 7 8\n0 load 3\n0 insert 9,4 1,2\n0 insert 9,4 5\n0 replace 9,4 1,2 1,2\n0 replace 9,4 5 6\n0 remove 9,4\n0 find 9,4\n0 replace 9,4 0 1\n0 remove 9,4\n0 insert 9,4 3\n0 find 9,4\n",
+        "callers 1\n0 swap 3 0 0\n0 store 3 7,0,1\n0 store 3 7,0,1\n0 swap 3 7 8\n0 load 3\n0 insert 9,4 1,2\n0 insert 9,4 5\n\
+         0 replace 9,4 1,2 1,2\n0 replace 9,4 5 6\n0 remove 9,4\n0 find 9,4\n0 replace 9,4 0 1\n0 remove 9,4\n0 insert 9,4 3\n0 find 9,4\n",
         "yes\ndone\ndone\nno\n7,0,1\ndone\npresent 1,2\nyes\nfound 1,2\ngone 1,2\nabsent\nabsent\nabsent\ndone\n3\nregister 3 7,0,1\nrecord 9,4 3\n",
     ),
     (
@@ -32,11 +47,35 @@ static GOOD: [(&str, &str); 6] = [
 ];
 
 #[test]
-fn scripts_print_replies_and_contents(rt: HostRuntime) -> Result<(), Fail> {
+fn scripts_print_replies_contents_and_nodes(rt: HostRuntime) -> Result<(), Fail> {
     for (script, want) in GOOD {
-        let text = printed(rt.alloc(), script)?;
-        assert_eq!(rt; text.as_slice(), want.as_bytes(), "of {script}");
+        let text = printed(rt.alloc(), script, 4096, 18)?;
+        let mut whole = String::from_str(rt.alloc(), want)?;
+        whole.push_str("nodes 4114 free 4096 live 18\n")?;
+        assert_eq!(rt; text.as_slice(), whole.as_bytes(), "of {script}");
     }
+    Ok(())
+}
+
+#[test]
+fn a_full_line_says_need_and_free(rt: HostRuntime) -> Result<(), Fail> {
+    let mut replies = Vec::new(rt.alloc());
+    replies.push(Reply::Full { need: 2, free: 1 })?;
+    let driven = Driven {
+        replies: ReplyList::of_vec(replies),
+        registers: RecList::of_vec(Vec::new(rt.alloc())),
+        pairs: PairList::of_vec(Vec::new(rt.alloc())),
+        counts: Counts {
+            free: 1,
+            live: 17,
+            retired: 0,
+        },
+    };
+    let text = write_replies(rt.alloc(), &driven)?;
+    assert_eq!(rt;
+        text.as_slice(),
+        "full need 2 free 1\nnodes 18 free 1 live 17\n".as_bytes()
+    );
     Ok(())
 }
 
@@ -50,8 +89,8 @@ fn one_caller_after_the_other_swaps_each_number_once(rt: HostRuntime) -> Result<
             want.push_str(if caller == 0 { "yes\n" } else { "no\n" })?;
         }
     }
-    want.push_str("register 0 200\n")?;
-    let text = printed(rt.alloc(), script.as_str())?;
+    want.push_str("register 0 200\nnodes 4294967295 free 0 live 4294967295\n")?;
+    let text = printed(rt.alloc(), script.as_str(), 0, 4_294_967_295)?;
     assert_eq!(rt; text.as_slice(), want.as_bytes());
     Ok(())
 }

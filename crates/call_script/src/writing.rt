@@ -1,13 +1,14 @@
 // The text of what comes of a script.
-ghost use Rattle.std.specs.Prelude.{◌≡◌, ◌++◌, ◌∷◌, [], ◌<◌, ◌≤◌, length, decimal, ℕ, ◌≢◌, All, slice_index, IfSome, IfNone, IfOk, OnOk};
+ghost use Rattle.std.specs.Prelude.{◌≡◌, ◌+◌, ◌^◌, ◌++◌, ◌∷◌, [], ◌<◌, ◌≤◌, length, decimal, ℕ, ◌≢◌, All, slice_index, IfSome, IfNone, IfOk, OnOk};
 ghost use Rattle.std.specs.List.{flat_map, enumerate_from};
-ghost use Rattle.call_script.specs.Text.{driven_text, is_blank, labelled, pair_line, register_line, reply_line, reply_text, trimmed, tuple_text};
+ghost use Rattle.call_script.specs.Text.{driven_text, is_blank, labelled, nodes_line, pair_line, register_line, reply_line, reply_text, trimmed, tuple_text};
 ghost use Rattle.seat_history.specs.Pairs.{HasRisingKeys};
 
 use crate::driven::Driven;
 use decimal_text::TextWriter;
 use seat_history::{KeyWords, Rec, Reply, ValWords};
 use std::alloc::{AllocError, Global};
+use step_rules::Counts;
 use wire_ports::NoMemory;
 
 // The place of the last word that isn't zero.
@@ -144,15 +145,32 @@ fn add_pairs(text: &mut TextWriter, pairs: &[(KeyWords, ValWords)]) -> Result<()
     Ok(())
 }
 
+#[tactic(auto, unfolding(crate::specs::Text::nodes_line))]
+fn add_nodes(text: &mut TextWriter, counts: &Counts) -> Result<(), AllocError>
+    requires { counts.now.free + counts.now.live < 2 ^ 32 }
+    ensures { OnOk result (text.new ≡ text.old ++ nodes_line counts.now) }
+{
+    text.push_bytes(b"nodes ")?;
+    text.push_number(u64::from(counts.free + counts.live))?;
+    text.push_bytes(b" free ")?;
+    text.push_number(u64::from(counts.free))?;
+    text.push_bytes(b" live ")?;
+    text.push_number(u64::from(counts.live))?;
+    text.push_byte(b'\n')
+}
+
 /// What comes of a script, as text: a line for each reply, each register that isn't all zeros and
-/// each pair.
+/// each pair, and one for the nodes.
 pub fn write_replies(alloc: Global, driven: &Driven) -> Result<Vec<u8>, NoMemory>
-    requires { HasRisingKeys driven.now.pairs }
+    requires rising { HasRisingKeys driven.now.pairs }
+    requires retired { driven.now.counts.retired ≡ 0 }
+    requires nodes { driven.now.counts.free + driven.now.counts.live < 2 ^ 32 }
     ensures { IfOk result (λ text. text.items ≡ driven_text driven.now) }
 {
     let mut text = TextWriter::new(alloc);
     add_replies(&mut text, driven.replies.as_slice())?;
     add_registers(&mut text, driven.registers.as_slice())?;
     add_pairs(&mut text, driven.pairs.as_slice())?;
+    add_nodes(&mut text, &driven.counts)?;
     Ok(text.into_bytes())
 }

@@ -9,7 +9,7 @@ use Rattle.call_script.specs.Script.{Reading, Good, Bad, Many, ReadAs, bad_readi
 use Rattle.call_script.specs.declared.bad_script.BadScript.{BadScript as ScriptFault}
 use Rattle.call_script.specs.declared.bad_script.BadScript.TheVariants.{BadLine, TooMany, NoMemory as OutOfMemory}
 use Rattle.call_script.proofs.OneReading.{one_reading}
-use Rattle.flow_tally.specs.DriveOutcome.{IsDriven, Drives, HasFault, RefusesDrive, DriveSays, DeterminesDrive}
+use Rattle.flow_tally.specs.DriveOutcome.{IsDriven, IsGoodScript, Drives, HasFault, RefusesDrive, DriveSays, DeterminesDrive}
 use Rattle.flow_tally.specs.Input.{most_bytes, FeedShown, IsFirstTooLarge, RefusesFiles}
 use Rattle.flow_tally.specs.OutShown.{OutShown, Took, TookAll, TookFront}
 use Rattle.flow_tally.specs.Outcome.{IsDecided}
@@ -19,35 +19,41 @@ use Rattle.flow_tally.specs.Words.{Drive, OfDrive}
 use Rattle.flow_tally.specs.declared.status.Status.{Status}
 use Rattle.flow_tally.specs.declared.status.Status.TheVariants.{Done, Usage, OpenFault, ReadFault, WriteFault, BadDatagram, TooManyFlows, InputTooLarge, BadScript, NoMemory, PlanTooLarge}
 use Rattle.flow_tally.proofs.Inputs.{one_refused}
+use Rattle.step_rules.specs.Closing.{ClosedData}
 
 -- a drive that ended before its output may end for want of memory as well
-pub no_memory_of_drive : (drive : Drive) (feed : FeedShown) (out : OutShown) (status : Status) → HasNumbers status → DriveSays drive feed out status → DriveSays drive feed out NoMemory
-no_memory_of_drive drive feed out Done before says = absurd before
-no_memory_of_drive drive feed out Usage before says = absurd before
-no_memory_of_drive drive feed out (OpenFault file) before says = (tt, says.1)
-no_memory_of_drive drive feed out (ReadFault file) before says = (tt, says.1)
-no_memory_of_drive drive feed out (WriteFault written) before says = absurd before
-no_memory_of_drive drive feed out (BadDatagram file offset cause) before says = (tt, says.1)
-no_memory_of_drive drive feed out (TooManyFlows limit) before says = (tt, says.1)
-no_memory_of_drive drive feed out (InputTooLarge file) before says = (tt, says.1)
-no_memory_of_drive drive feed out (BadScript fault) before says = (tt, says.1)
-no_memory_of_drive drive feed out NoMemory before says = absurd before
-no_memory_of_drive drive feed out (PlanTooLarge nodes) before says = (tt, says.1)
+pub no_memory_of_drive : (drive : Drive) (feed : FeedShown) (out : OutShown) (closed : Option ClosedData) (status : Status) → HasNumbers status → DriveSays drive feed out closed status
+    → DriveSays drive feed out closed NoMemory
+no_memory_of_drive drive feed out closed Done before says = absurd before
+no_memory_of_drive drive feed out closed Usage before says = absurd before
+no_memory_of_drive drive feed out closed (OpenFault file) before says = (tt, says.1, says.2)
+no_memory_of_drive drive feed out closed (ReadFault file) before says = (tt, says.1, says.2)
+no_memory_of_drive drive feed out closed (WriteFault written) before says = absurd before
+no_memory_of_drive drive feed out closed (BadDatagram file offset cause) before says = (tt, says.1, says.2)
+no_memory_of_drive drive feed out closed (TooManyFlows limit) before says = (tt, says.1, says.2)
+no_memory_of_drive drive feed out closed (InputTooLarge file) before says = (tt, says.1, says.2)
+no_memory_of_drive drive feed out closed (BadScript fault) before says = (tt, says.1, says.2)
+no_memory_of_drive drive feed out closed NoMemory before says = absurd before
+no_memory_of_drive drive feed out closed (PlanTooLarge nodes) before says = (tt, says.1, says.2)
+
+-- what has come of a script is a script
+good_script : {text : List ℕ} (drive : Drive) (names : Option Names) (closed : ClosedData) → IsDriven drive names closed text → IsGoodScript drive names
+good_script drive names closed (bytes, callers, entries, driven, told, is, has, words) = (bytes, callers, entries, told, is)
 
 -- it is what words and files determine
-pub drive_decided : (drive : Drive) (feed : FeedShown) (names : Names) (out : OutShown) (status : Status)
-    → DriveSays drive (record feed { names = Some names }) out status → IsDecided (Some (OfDrive drive)) names status
-drive_decided drive feed names out Done says = (says.0, says.1.1)
-drive_decided drive feed names out Usage says = absurd says.0
-drive_decided drive feed names out (OpenFault file) says = tt
-drive_decided drive feed names out (ReadFault file) says = tt
-drive_decided drive feed names out (WriteFault written) says = (says.0, says.1.1)
-drive_decided drive feed names out (BadDatagram file offset cause) says = absurd says.0
-drive_decided drive feed names out (TooManyFlows limit) says = absurd says.0
-drive_decided drive feed names out (InputTooLarge file) says = says.0.0
-drive_decided drive feed names out (BadScript fault) says = says.0.0
-drive_decided drive feed names out NoMemory says = tt
-drive_decided drive feed names out (PlanTooLarge nodes) says = absurd says.0
+pub drive_decided : (drive : Drive) (feed : FeedShown) (names : Names) (out : OutShown) (closed : Option ClosedData) (status : Status)
+    → DriveSays drive (record feed { names = Some names }) out closed status → IsDecided (Some (OfDrive drive)) names status
+drive_decided drive feed names out closed Done says = good_script drive (Some names) says.1.1 says.1.3
+drive_decided drive feed names out closed Usage says = absurd says.0
+drive_decided drive feed names out closed (OpenFault file) says = tt
+drive_decided drive feed names out closed (ReadFault file) says = tt
+drive_decided drive feed names out closed (WriteFault written) says = good_script drive (Some names) says.1.1 says.1.3
+drive_decided drive feed names out closed (BadDatagram file offset cause) says = absurd says.0
+drive_decided drive feed names out closed (TooManyFlows limit) says = absurd says.0
+drive_decided drive feed names out closed (InputTooLarge file) says = says.0.0
+drive_decided drive feed names out closed (BadScript fault) says = says.0.0
+drive_decided drive feed names out closed NoMemory says = tt
+drive_decided drive feed names out closed (PlanTooLarge nodes) says = absurd says.0
 
 -- the one file of a list is the first
 alone : (x name : List ℕ) (before : List (List ℕ)) → slice_get (x ∷ []) (length before) ≡ Some name → (length before ≡ 0) × (x ≡ name)
@@ -104,15 +110,15 @@ one_fault drive names a b (bytes, told, fault) (others, also, second) =
     same_fault a b p.0 p.1 (q.1 ∙ ap (λ (r : Reading). Some r) same)
 
 -- a script has none
-no_fault : (drive : Drive) (names : Names) (text : List ℕ) (fault : ScriptFault) → IsDriven drive (Some names) text → HasFault drive (Some names) fault → ⊥
-no_fault drive names text fault (bytes, callers, entries, driven, told, is, run, words) (others, also, bad) =
+no_fault : (drive : Drive) (names : Names) (fault : ScriptFault) → IsGoodScript drive (Some names) → HasFault drive (Some names) fault → ⊥
+no_fault drive names fault (bytes, callers, entries, told, is) (others, also, bad) =
     let q = reading_there (bad_reading fault) (lines_of others) bad.reads in
     let here : ReadAs (lines_of bytes) q.0 = subst (λ (z : List ℕ). ReadAs (lines_of z) q.0) (also ∙ sym told) q.2 in
     let same : q.0 ≡ Good callers entries = one_reading (lines_of bytes) q.0 (Good callers entries) here is.reads in
     never_good fault callers entries (q.1 ∙ ap (λ (r : Reading). Some r) same)
 
 done_not_large : (drive : Drive) (names : Names) (file : ℕ) → DeterminesDrive drive names Done → DeterminesDrive drive names (InputTooLarge file) → ⊥
-done_not_large drive names file (text, (bytes, callers, entries, driven, told, is, run, words)) large = fits drive names file bytes told is.within large
+done_not_large drive names file (bytes, callers, entries, told, is) large = fits drive names file bytes told is.within large
 
 bad_not_large : (drive : Drive) (names : Names) (file : ℕ) (fault : ScriptFault) → HasFault drive (Some names) fault → DeterminesDrive drive names (InputTooLarge file) → ⊥
 bad_not_large drive names file fault (bytes, told, bad) large = fits drive names file bytes told bad.within large
@@ -121,11 +127,11 @@ module _ (drive : Drive) (names : Names) where
   pub one_for_drive : (s t : Status) → DeterminesDrive drive names s → DeterminesDrive drive names t → s ≡ t
   one_for_drive Done Done a b = refl
   one_for_drive Done (InputTooLarge g) a b = absurd (done_not_large drive names g a b)
-  one_for_drive Done (BadScript y) a b = absurd (no_fault drive names a.0 y a.1 b)
+  one_for_drive Done (BadScript y) a b = absurd (no_fault drive names y a b)
   one_for_drive (InputTooLarge f) Done a b = absurd (done_not_large drive names f b a)
   one_for_drive (InputTooLarge f) (InputTooLarge g) a b = ap (λ (k : ℕ). InputTooLarge k) ((first_large drive names f a).0 ∙ sym (first_large drive names g b).0)
   one_for_drive (InputTooLarge f) (BadScript y) a b = absurd (bad_not_large drive names f y b a)
-  one_for_drive (BadScript x) Done a b = absurd (no_fault drive names b.0 x b.1 a)
+  one_for_drive (BadScript x) Done a b = absurd (no_fault drive names x b a)
   one_for_drive (BadScript x) (InputTooLarge g) a b = absurd (bad_not_large drive names g x a b)
   one_for_drive (BadScript x) (BadScript y) a b = ap (λ (k : ScriptFault). BadScript k) (one_fault drive names x y a b)
   one_for_drive Usage t a b = absurd a
@@ -165,17 +171,22 @@ read_refuses drive feed name status is last reads =
     refuses NoMemory r h = tt
     refuses (PlanTooLarge nodes) r h = absurd h
 
--- the text that comes of the file's script was written, whole or in part
-pub took_says : (drive : Drive) (feed : FeedShown) (out : OutShown) (text bytes : List ℕ) (status : Status) → bytes ≡ text → Drives drive feed text → Took bytes out status
-    → DriveSays drive feed out status
-took_says drive feed out text bytes Done same is took = (text, is, subst (λ (z : List ℕ). TookAll z out) same took)
-took_says drive feed out text bytes (WriteFault written) same is took = (text, is, subst (λ (z : List ℕ). TookFront z written out) same took)
-took_says drive feed out text bytes Usage same is took = absurd took
-took_says drive feed out text bytes (OpenFault file) same is took = absurd took
-took_says drive feed out text bytes (ReadFault file) same is took = absurd took
-took_says drive feed out text bytes (BadDatagram file offset cause) same is took = absurd took
-took_says drive feed out text bytes (TooManyFlows limit) same is took = absurd took
-took_says drive feed out text bytes (InputTooLarge file) same is took = absurd took
-took_says drive feed out text bytes (BadScript fault) same is took = absurd took
-took_says drive feed out text bytes NoMemory same is took = absurd took
-took_says drive feed out text bytes (PlanTooLarge nodes) same is took = absurd took
+took_as : (drive : Drive) (feed : FeedShown) (out : OutShown) (closed : Option ClosedData) (text bytes : List ℕ) (status : Status) → bytes ≡ text → Drives drive feed closed text
+    → Took bytes out status → DriveSays drive feed out closed status
+took_as drive feed out closed text bytes Done same is took = (text, is, subst (λ (z : List ℕ). TookAll z out) same took)
+took_as drive feed out closed text bytes (WriteFault written) same is took = (text, is, subst (λ (z : List ℕ). TookFront z written out) same took)
+took_as drive feed out closed text bytes Usage same is took = absurd took
+took_as drive feed out closed text bytes (OpenFault file) same is took = absurd took
+took_as drive feed out closed text bytes (ReadFault file) same is took = absurd took
+took_as drive feed out closed text bytes (BadDatagram file offset cause) same is took = absurd took
+took_as drive feed out closed text bytes (TooManyFlows limit) same is took = absurd took
+took_as drive feed out closed text bytes (InputTooLarge file) same is took = absurd took
+took_as drive feed out closed text bytes (BadScript fault) same is took = absurd took
+took_as drive feed out closed text bytes NoMemory same is took = absurd took
+took_as drive feed out closed text bytes (PlanTooLarge nodes) same is took = absurd took
+
+-- the text that comes of the file's script was written, whole or in part, and its object is given
+pub took_says : {last closed : Option ClosedData} (drive : Drive) (feed : FeedShown) (out : OutShown) (text bytes : List ℕ) (status : Status) → last ≡ closed → bytes ≡ text
+    → Drives drive feed closed text → Took bytes out status → DriveSays drive feed out last status
+took_says {last = last} drive feed out text bytes status given same is took =
+    took_as drive feed out last text bytes status same (subst (λ (z : Option ClosedData). Drives drive feed z text) (sym given) is) took

@@ -13,10 +13,8 @@ use Rattle.flow_fold.proofs.SomeFold.{some_fold}
 use Rattle.flow_report.specs.Text.{report_text}
 use Rattle.call_script.specs.Cut.{lines_of}
 use Rattle.call_script.specs.Script.{Reading, Good, Bad, Many, ReadAs}
-use Rattle.call_script.specs.Text.{driven_text}
 use Rattle.call_script.specs.declared.bad_script.BadScript.TheVariants.{BadLine, TooMany}
 use Rattle.call_script.proofs.SomeReading.{bytes_read}
-use Rattle.call_script.proofs.SomeRun.{script_run}
 use Rattle.call_script.proofs.Tuples.{drop_first, drop_nothing}
 use Rattle.flow_tally.specs.DriveOutcome.{DeterminesDrive}
 use Rattle.flow_tally.specs.Input.{most_bytes, AreContents, AreGood}
@@ -88,9 +86,7 @@ module _ (drive : Drive) (names : Names) where
   SomeForDrive = (status : Status) × DeterminesDrive drive names status
 
   script_read : length file_bytes ≤ most_bytes → (reading : Reading) → ReadAs (lines_of file_bytes) reading → SomeForDrive
-  script_read within (Good callers entries) reads =
-      let run = script_run (lines_of file_bytes) callers entries reads in
-      (Done, (driven_text run.0, (file_bytes, callers, entries, run.0, refl, record { within = within; reads = reads }, run.1, refl)))
+  script_read within (Good callers entries) reads = (Done, (file_bytes, callers, entries, refl, record { within = within; reads = reads }))
   script_read within (Bad line cause) reads = (BadScript (BadLine line cause), (file_bytes, refl, record { within = within; reads = reads }))
   script_read within (Many line) reads = (BadScript (TooMany line), (file_bytes, refl, record { within = within; reads = reads }))
 

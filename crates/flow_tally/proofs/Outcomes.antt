@@ -1,11 +1,12 @@
 -- From what a run comes to, to what the status that is told says.
-use Rattle.std.proofs.Common.{Option, Some, None, sym, subst, inl, inr}
+use Rattle.std.proofs.Common.{◌≡◌, Option, Some, None, sym, subst, inl, inr}
 use Rattle.flow_tally.specs.Input.{FeedShown}
 use Rattle.flow_tally.specs.OutShown.{OutShown}
 use Rattle.flow_tally.specs.Outcome.{Says, NothingSays, TallySays}
 use Rattle.flow_tally.specs.Telling.{HasNumbers, IsToldAs}
 use Rattle.flow_tally.specs.Words.{Tally, Command, OfTally, OfDrive}
 use Rattle.flow_tally.proofs.OutcomeDrive.{no_memory_of_drive}
+use Rattle.step_rules.specs.Closing.{ClosedData}
 use Rattle.flow_tally.specs.declared.status.Status.{Status}
 use Rattle.flow_tally.specs.declared.status.Status.TheVariants.{Done, Usage, OpenFault, ReadFault, WriteFault, BadDatagram, TooManyFlows, InputTooLarge, BadScript, NoMemory, PlanTooLarge}
 
@@ -36,12 +37,15 @@ none_of out NoMemory before says = absurd before
 none_of out (BadScript fault) before says = absurd says
 none_of out (PlanTooLarge nodes) before says = absurd says
 
-memory_of : (asked : Option Command) (feed : FeedShown) (out : OutShown) (status : Status) → HasNumbers status → Says asked feed out status → Says asked feed out NoMemory
-memory_of None feed out status before says = none_of out status before says
-memory_of (Some (OfTally tally)) feed out status before says = no_memory_of tally feed out status before says
-memory_of (Some (OfDrive drive)) feed out status before says = no_memory_of_drive drive feed out status before says
+memory_of : (asked : Option Command) (feed : FeedShown) (out : OutShown) (closed : Option ClosedData) (status : Status) → HasNumbers status → Says asked feed out closed status
+    → Says asked feed out closed NoMemory
+memory_of None feed out closed status before says = (none_of out status before says.0, says.1)
+memory_of (Some (OfTally tally)) feed out closed status before says = (no_memory_of tally feed out status before says.0, says.1)
+memory_of (Some (OfDrive drive)) feed out closed status before says = no_memory_of_drive drive feed out closed status before says
 
--- what holds of a status holds of it as it is told
-pub told_says : (asked : Option Command) (feed : FeedShown) (out : OutShown) (status told : Status) → IsToldAs status told → Says asked feed out status → Says asked feed out told
-told_says asked feed out status told (inl same) says = subst (λ (s : Status). Says asked feed out s) (sym same) says
-told_says asked feed out status told (inr memory) says = subst (λ (s : Status). Says asked feed out s) (sym memory.0) (memory_of asked feed out status memory.1 says)
+-- what holds of a status holds of it as it is told, with the same object
+pub told_says : (asked : Option Command) (feed : FeedShown) (out : OutShown) (closed last : Option ClosedData) (status told : Status) → IsToldAs status told → last ≡ closed
+    → Says asked feed out closed status → Says asked feed out last told
+told_says asked feed out closed last status told (inl same) is says = subst (λ (z : Option ClosedData × Status). Says asked feed out z.0 z.1) (λ i. (sym is i, sym same i)) says
+told_says asked feed out closed last status told (inr memory) is says =
+    subst (λ (z : Option ClosedData × Status). Says asked feed out z.0 z.1) (λ i. (sym is i, sym memory.0 i)) (memory_of asked feed out closed status memory.1 says)

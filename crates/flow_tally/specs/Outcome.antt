@@ -14,6 +14,7 @@ use Rattle.flow_tally.specs.Words.{Tally, Command, OfTally, OfDrive}
 use Rattle.flow_tally.specs.declared.answer.Answer.{Answer}
 use Rattle.flow_tally.specs.declared.status.Status.{Status}
 use Rattle.flow_tally.specs.declared.status.Status.TheVariants.{Done, Usage, OpenFault, ReadFault, WriteFault, BadDatagram, TooManyFlows, InputTooLarge, NoMemory, PlanTooLarge}
+use Rattle.step_rules.specs.Closing.{ClosedData}
 
 -- the nodes that a table for the tally has: a share of 2F + 4W + 1 for each of W workers, and one for each bucket
 abbrev pub nodes_of : Tally → ℕ
@@ -74,11 +75,11 @@ NothingSays out Usage = IsUntouched out
 NothingSays out NoMemory = IsUntouched out
 NothingSays out _ = ⊥
 
--- what a status says of a run with these words
-abbrev pub Says : Option Command → FeedShown → OutShown → Status → Type 0
-Says None feed out status = NothingSays out status
-Says (Some (OfTally tally)) feed out status = TallySays tally feed out status
-Says (Some (OfDrive drive)) feed out status = DriveSays drive feed out status
+-- what a status says of a run with these words. A tally has no shared object yet
+abbrev pub Says : Option Command → FeedShown → OutShown → Option ClosedData → Status → Type 0
+Says None feed out closed status = NothingSays out status × (closed ≡ None)
+Says (Some (OfTally tally)) feed out closed status = TallySays tally feed out status × (closed ≡ None)
+Says (Some (OfDrive drive)) feed out closed status = DriveSays drive feed out closed status
 
 -- what the files under these names determine of a tally
 abbrev pub DeterminesTally : Tally → Names → Status → Type 0
@@ -96,11 +97,11 @@ Determines None names _ = ⊥
 Determines (Some (OfTally tally)) names status = DeterminesTally tally names status
 Determines (Some (OfDrive drive)) names status = DeterminesDrive drive names status
 
--- the text is the output that the words ask for, with the files under these names
-abbrev pub IsOutput : Option Command → Names → List ℕ → Type 0
-IsOutput None names text = ⊥
-IsOutput (Some (OfTally tally)) names text = IsReport tally (Some names) text
-IsOutput (Some (OfDrive drive)) names text = IsDriven drive (Some names) text
+-- the text is the output that the words ask for, with the files under these names, and of a drive the one of this object
+abbrev pub IsOutput : Option Command → Names → Option ClosedData → List ℕ → Type 0
+IsOutput None names closed text = ⊥
+IsOutput (Some (OfTally tally)) names closed text = IsReport tally (Some names) text
+IsOutput (Some (OfDrive drive)) names closed text = (object : ClosedData) × (closed ≡ Some object) × IsDriven drive (Some names) object text
 
 -- the words ask for a tally, and the text is the report of its files under these names
 abbrev pub IsReportOf : Option Command → Names → List ℕ → Type 0
@@ -108,10 +109,10 @@ IsReportOf (Some (OfTally tally)) names text = IsReport tally (Some names) text
 IsReportOf _ names text = ⊥
 
 -- what the sink took: the output at Done, so many first bytes of it at a fault of the output, and nothing else
-abbrev pub HasOutput : Option Command → Names → OutShown → Status → Type 0
-HasOutput asked names out Done = (text : List ℕ) × IsOutput asked names text × TookAll text out
-HasOutput asked names out (WriteFault written) = (text : List ℕ) × IsOutput asked names text × TookFront text written out
-HasOutput asked names out status = IsUntouched out
+abbrev pub HasOutput : Option Command → Names → OutShown → Option ClosedData → Status → Type 0
+HasOutput asked names out closed Done = (text : List ℕ) × IsOutput asked names closed text × TookAll text out
+HasOutput asked names out closed (WriteFault written) = (text : List ℕ) × IsOutput asked names closed text × TookFront text written out
+HasOutput asked names out closed status = IsUntouched out
 
 -- with these words and so many nodes there is no business with files
 abbrev pub LeavesFeed : Status → Type 0

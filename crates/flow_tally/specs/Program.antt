@@ -1,11 +1,12 @@
 -- What the program makes of its arguments.
-use Rattle.std.specs.Prelude.{◌≡◌, ℕ, List, [], drop, Result, Ok, Err}
+use Rattle.std.specs.Prelude.{◌≡◌, ℕ, List, [], drop, Option, Result, Ok, Err}
 use Rattle.flow_tally.specs.Input.{FeedShown}
 use Rattle.flow_tally.specs.OutShown.{OutShown}
 use Rattle.flow_tally.specs.Outcome.{Says}
 use Rattle.flow_tally.specs.Words.{words_asked}
 use Rattle.flow_tally.specs.declared.status.Status.{Status}
 use Rattle.flow_tally.specs.declared.status.Status.TheVariants.{NoMemory}
+use Rattle.step_rules.specs.Closing.{ClosedData}
 
 -- the words after the first argument, which is the program's name; none, which fits no command, where the
 -- arguments are no text
@@ -19,6 +20,6 @@ IsWanting is_memory (Ok args) = ⊥
 IsWanting is_memory (Err fault) = is_memory fault
 
 -- a run with these words ended so; it ended for want of memory where the arguments did
-pub record EndsAs (words : List (List ℕ)) (wanting : Type 0) (feed : FeedShown) (out : OutShown) (status : Status) : Type 0 where
-  pub says : Says (words_asked words) feed out status
+pub record EndsAs (words : List (List ℕ)) (wanting : Type 0) (feed : FeedShown) (out : OutShown) (closed : Option ClosedData) (status : Status) : Type 0 where
+  pub says : Says (words_asked words) feed out closed status
   pub memory : wanting → status ≡ NoMemory

@@ -10,55 +10,76 @@ use crate::drive_words::DriveWords;
 use crate::input::{MOST_BYTES, read_file};
 use crate::output::write_output;
 use crate::status::Status;
-use call_script::{BadScript, read_script, run_plain, write_replies};
+use call_script::{BadScript, read_script, write_replies};
 use std::alloc::Global;
+use std::thread::Threads;
+use tally_core::{Ran, drive as run_script};
 use wire_ports::{Feed, Sink};
+use worker_gate::Gate;
 
-/// What comes of the script that the bytes are.
-fn answer_of(alloc: Global, bytes: &[u8]) -> Result<Answer, Status>
-    ensures { GivesScriptText bytes.now result }
+/// What comes of the script that the bytes are, each caller in a thread of its own.
+fn answer_of<R: Threads + Sync, G: Gate>(
+    rt: &R,
+    alloc: Global,
+    words: &DriveWords,
+    bytes: &[u8],
+    gate: &G,
+) -> Result<Answer, Status>
+    ensures { GivesScriptText (drive_in words.now) bytes.now result }
 {
     let script = match read_script(alloc, bytes) {
         Ok(script) => script,
         Err(BadScript::NoMemory) => return Err(Status::NoMemory),
         Err(cause) => return Err(Status::BadScript { cause }),
     };
-    let Ok(driven) = run_plain(alloc, &script) else {
+    let Ok(ran) = run_script(rt, alloc, &script, words.buckets, words.share, gate) else {
         return Err(Status::NoMemory);
     };
+    let Ran { driven, closed } = ran;
     match write_replies(alloc, &driven) {
-        Ok(text) => Ok(Answer { text }),
+        Ok(text) => Ok(Answer {
+            text,
+            closed: Some(closed),
+        }),
         Err(_) => Err(Status::NoMemory),
     }
 }
 
 /// What comes of the file's script.
-fn drive_file<F: Feed>(alloc: Global, words: &DriveWords, feed: &mut F) -> Result<Answer, Status>
-    ensures answer { MatchResult result (λ answer. Drives (drive_in words.now) (feed_shown F.files F.faults F.failed F.current F.started F.left feed.old feed.new) answer.text.items)
+fn drive_file<R: Threads + Sync, F: Feed, G: Gate>(
+    rt: &R,
+    alloc: Global,
+    words: &DriveWords,
+    feed: &mut F,
+    gate: &G,
+) -> Result<Answer, Status>
+    ensures answer { MatchResult result (λ answer. Drives (drive_in words.now) (feed_shown F.files F.faults F.failed F.current F.started F.left feed.old feed.new) answer.closed answer.text.items)
         (RefusesDrive (drive_in words.now) (feed_shown F.files F.faults F.failed F.current F.started F.left feed.old feed.new)) }
     ensures business { IfErr result (λ status. ¬ LeavesFeed status) }
 {
     match read_file(alloc, feed, 1, words.file.as_str(), MOST_BYTES) {
-        Ok(bytes) => answer_of(alloc, &bytes),
+        Ok(bytes) => answer_of(rt, alloc, words, &bytes, gate),
         Err(status) => Err(status),
     }
 }
 
 /// Runs the file's script, and writes what comes of it once it is whole.
-pub fn drive<F: Feed, O: Sink>(
+pub fn drive<R: Threads + Sync, F: Feed, O: Sink, G: Gate>(
+    rt: &R,
     alloc: Global,
     words: &DriveWords,
     feed: &mut F,
     out: &mut O,
+    gate: &G,
 ) -> Ended
     ensures says { DriveSays (drive_in words.now)
         (feed_shown F.files F.faults F.failed F.current F.started F.left feed.old feed.new)
         (out_shown O.faults O.taken out.old out.new)
-        result.status }
+        result.closed result.status }
     ensures business { ¬ LeavesFeed result.status }
 {
-    match drive_file(alloc, words, feed) {
-        Ok(answer) => write_output(out, &answer),
-        Err(status) => Ended { status },
+    match drive_file(rt, alloc, words, feed, gate) {
+        Ok(answer) => write_output(out, answer),
+        Err(status) => Ended::refused(status),
     }
 }

@@ -22,11 +22,21 @@ mod words;
 use std::env;
 use std::process::ExitCode;
 use wire_ports::{FileFeed, StdSink};
+use worker_gate::OpenGate;
 
 fn main(rt: HostRuntime) -> ExitCode {
     let mut feed = FileFeed::new(&rt);
     let mut out = StdSink::new(rt.stdout());
     let mut err = StdSink::new(rt.stderr());
-    let code = program::exit_code(rt.alloc(), env::args(&rt), &mut feed, &mut out, &mut err);
+    let args = env::args(&rt);
+    let code = program::exit_code(
+        &rt,
+        rt.alloc(),
+        args,
+        &mut feed,
+        &mut out,
+        &mut err,
+        &OpenGate,
+    );
     ExitCode::from(code)
 }

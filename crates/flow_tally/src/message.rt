@@ -149,6 +149,7 @@ fn write_line<E: Sink>(err: &mut E, line: &str)
 #[tactic(auto, unfolding(crate::specs::Message::message_of))]
 pub(crate) fn tell<E: Sink>(alloc: Global, err: &mut E, ended: Ended) -> Ended
     ensures same { IsToldAs ended.status result.status }
+    ensures closed { result.closed ≡ ended.closed }
     ensures line { Tells (message_of result.status) (E.taken err.old) (E.taken err.new) (E.faults err.old) (E.faults err.new) }
 {
     match line_of(alloc, ended.status) {
@@ -160,6 +161,7 @@ pub(crate) fn tell<E: Sink>(alloc: Global, err: &mut E, ended: Ended) -> Ended
             write_line(err, NO_MEMORY);
             Ended {
                 status: Status::NoMemory,
+                closed: ended.closed,
             }
         }
     }

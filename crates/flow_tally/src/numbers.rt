@@ -6,6 +6,7 @@ use decimal_text::parse_digits;
 /// The number of a word's digits, where it is in the range.
 fn number_within(digits: &[u8], least: u32, most: u32) -> Option<u32>
     ensures number { result ≡ decimal_in least most digits.now }
+    ensures at_least { IfSome result (λ n. least ≤ n) }
     ensures at_most { IfSome result (λ n. n ≤ most) }
 {
     let number = parse_digits(digits, u64::from(most))?;
@@ -17,8 +18,10 @@ fn number_within(digits: &[u8], least: u32, most: u32) -> Option<u32>
 
 /// The number given, where it is in its range; the default where none is given.
 pub(crate) fn number_in(text: Option<&str>, least: u32, most: u32, default: u32) -> Option<u32>
-    requires { default ≤ most }
+    requires above { least ≤ default }
+    requires below { default ≤ most }
     ensures number { result ≡ number_or default least most (option_map (λ s. s.now) text.entry) }
+    ensures at_least { IfSome result (λ n. least ≤ n) }
     ensures at_most { IfSome result (λ n. n ≤ most) }
 {
     match text {

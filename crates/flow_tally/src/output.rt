@@ -1,3 +1,4 @@
+ghost use Rattle.std.specs.Prelude.{◌≡◌};
 ghost use Rattle.flow_tally.specs.OutShown.{out_shown, Took};
 
 use crate::answer::{Answer, Ended};
@@ -5,14 +6,16 @@ use crate::status::Status;
 use wire_ports::{Sink, put_all};
 
 /// Writes the whole output, and tells how that ended.
-pub(crate) fn write_output<O: Sink>(out: &mut O, answer: &Answer) -> Ended
-    ensures { Took answer.now.text.items (out_shown O.faults O.taken out.old out.new) result.status }
+pub(crate) fn write_output<O: Sink>(out: &mut O, answer: Answer) -> Ended
+    ensures took { Took answer.text.items (out_shown O.faults O.taken out.old out.new) result.status }
+    ensures closed { result.closed ≡ answer.closed }
 {
-    let status = match put_all(out, &answer.text) {
+    let Answer { text, closed } = answer;
+    let status = match put_all(out, &text) {
         Ok(()) => Status::Done,
         Err(failed) => Status::WriteFault {
             written: failed.written,
         },
     };
-    Ended { status }
+    Ended { status, closed }
 }

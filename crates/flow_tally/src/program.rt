@@ -1,4 +1,4 @@
-ghost use Rattle.std.specs.Prelude.{◌≡◌, drop, map, IfOk, IsErr};
+ghost use Rattle.std.specs.Prelude.{◌≡◌, drop, map, IfOk, IsErr, Option};
 ghost use Rattle.std.specs.IoError.{error_kind};
 ghost use Rattle.std.specs.String.{string_bytes};
 ghost use Rattle.std.specs.Vec.Iter.{into_iter_items};
@@ -9,6 +9,7 @@ ghost use Rattle.flow_tally.specs.Outcome.{LeavesFeed};
 ghost use Rattle.flow_tally.specs.Program.{EndsAs, IsWanting, words_given};
 ghost use Rattle.flow_tally.specs.Status.{exit_code_of};
 ghost use Rattle.flow_tally.specs.Telling.{Tells};
+ghost use Rattle.step_rules.specs.Closing.{ClosedData};
 
 use crate::answer::Ended;
 use crate::message::tell;
@@ -18,7 +19,9 @@ use std::alloc::Global;
 use std::env::Args;
 use std::io;
 use std::io::ErrorKind;
+use std::thread::Threads;
 use wire_ports::{Feed, NoMemory, Sink};
+use worker_gate::Gate;
 
 /// The arguments after the first, which is the program's name.
 fn words_after_name(alloc: Global, mut args: Args) -> Result<Vec<String>, NoMemory>
@@ -49,49 +52,49 @@ fn words_of(alloc: Global, args: io::Result<Args>) -> Result<Vec<String>, NoMemo
 }
 
 /// Runs the program with its arguments, and tells how it ended.
-fn run_with<F: Feed, O: Sink, E: Sink>(
+fn run_with<R: Threads + Sync, F: Feed, O: Sink, E: Sink, G: Gate>(
+    rt: &R,
     alloc: Global,
     args: io::Result<Args>,
     feed: &mut F,
     out: &mut O,
     err: &mut E,
+    gate: &G,
 ) -> Ended
     ensures ended { EndsAs (map string_bytes (words_given (λ given. into_iter_items given) args))
         (IsWanting (λ fault. error_kind fault ≡ ErrorKind.OutOfMemory) args)
         (feed_shown F.files F.faults F.failed F.current F.started F.left feed.old feed.new)
         (out_shown O.faults O.taken out.old out.new)
-        result.status }
+        result.closed result.status }
     ensures untouched { LeavesFeed result.status → feed.new ≡ feed.old }
     ensures message { Tells (message_of result.status) (E.taken err.old) (E.taken err.new) (E.faults err.old) (E.faults err.new) }
 {
     match words_of(alloc, args) {
-        Ok(words) => run(alloc, &words, feed, out, err),
-        Err(_) => tell(
-            alloc,
-            err,
-            Ended {
-                status: Status::NoMemory,
-            },
-        ),
+        Ok(words) => run(rt, alloc, &words, feed, out, err, gate),
+        Err(_) => tell(alloc, err, Ended::refused(Status::NoMemory)),
     }
 }
 
 /// Runs the program with its arguments, and gives its exit status.
-pub fn exit_code<F: Feed, O: Sink, E: Sink>(
+pub fn exit_code<R: Threads + Sync, F: Feed, O: Sink, E: Sink, G: Gate>(
+    rt: &R,
     alloc: Global,
     args: io::Result<Args>,
     feed: &mut F,
     out: &mut O,
     err: &mut E,
+    gate: &G,
 ) -> u8
-    ensures { (status : Status) × (result ≡ exit_code_of status)
+    ensures { (status : Status) × (closed : Option ClosedData) × (result ≡ exit_code_of status)
         × EndsAs (map string_bytes (words_given (λ given. into_iter_items given) args))
         (IsWanting (λ fault. error_kind fault ≡ ErrorKind.OutOfMemory) args)
         (feed_shown F.files F.faults F.failed F.current F.started F.left feed.old feed.new)
         (out_shown O.faults O.taken out.old out.new)
-        status
+        closed status
         × (LeavesFeed status → feed.new ≡ feed.old)
         × Tells (message_of status) (E.taken err.old) (E.taken err.new) (E.faults err.old) (E.faults err.new) }
 {
-    run_with(alloc, args, feed, out, err).status.exit_code()
+    run_with(rt, alloc, args, feed, out, err, gate)
+        .status
+        .exit_code()
 }

@@ -1,4 +1,4 @@
-ghost use Rattle.std.specs.Prelude.{◌≡◌, List, ℕ, IfErr, MatchResult};
+ghost use Rattle.std.specs.Prelude.{◌≡◌, List, ℕ, IfErr, IfOk, None, MatchResult};
 ghost use Rattle.flow_tally.specs.Input.{feed_shown};
 ghost use Rattle.flow_tally.specs.OutShown.{out_shown};
 ghost use Rattle.flow_tally.specs.Outcome.{nodes_of, Reports, Refuses, TallySays, GivesText, LeavesFeed};
@@ -30,7 +30,8 @@ fn nodes(words: &TallyWords) -> u64
 
 /// The report of what was gathered, where it has no more flows than it may have.
 fn answer_of(alloc: Global, gathered: &Gathered, limit: u32) -> Result<Answer, Status>
-    ensures { (contents ds : List (List ℕ)) → IsGatheredOf contents ds gathered.now → GivesText contents ds limit result }
+    ensures none { IfOk result (λ answer. answer.closed ≡ None) }
+    ensures report { (contents ds : List (List ℕ)) → IsGatheredOf contents ds gathered.now → GivesText contents ds limit result }
 {
     let Ok(flows) = fold(alloc, &gathered.pairs) else {
         return Err(Status::NoMemory);
@@ -46,7 +47,7 @@ fn answer_of(alloc: Global, gathered: &Gathered, limit: u32) -> Result<Answer, S
         datagrams: gathered.datagrams,
     };
     match report(alloc, flows.as_slice(), &totals) {
-        Ok(text) => Ok(Answer { text }),
+        Ok(text) => Ok(Answer { text, closed: None }),
         Err(_) => Err(Status::NoMemory),
     }
 }
@@ -55,6 +56,7 @@ fn answer_of(alloc: Global, gathered: &Gathered, limit: u32) -> Result<Answer, S
 fn tally_files<F: Feed>(alloc: Global, words: &TallyWords, feed: &mut F) -> Result<Answer, Status>
     ensures answer { MatchResult result (λ answer. Reports (tally_in words.now) (feed_shown F.files F.faults F.failed F.current F.started F.left feed.old feed.new) answer.text.items)
         (Refuses (tally_in words.now) (feed_shown F.files F.faults F.failed F.current F.started F.left feed.old feed.new)) }
+    ensures none { IfOk result (λ answer. answer.closed ≡ None) }
     ensures untouched { IfErr result (λ status. LeavesFeed status → feed.new ≡ feed.old) }
 {
     let nodes = nodes(words);
@@ -76,10 +78,11 @@ pub fn tally<F: Feed, O: Sink>(
         (feed_shown F.files F.faults F.failed F.current F.started F.left feed.old feed.new)
         (out_shown O.faults O.taken out.old out.new)
         result.status }
+    ensures none { result.closed ≡ None }
     ensures untouched { LeavesFeed result.status → feed.new ≡ feed.old }
 {
     match tally_files(alloc, words, feed) {
-        Ok(answer) => write_output(out, &answer),
-        Err(status) => Ended { status },
+        Ok(answer) => write_output(out, answer),
+        Err(status) => Ended::refused(status),
     }
 }

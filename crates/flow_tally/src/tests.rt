@@ -9,7 +9,9 @@ use netflow_five::Malformed;
 use std::alloc::{AllocError, Global};
 use std::process::Abort;
 use std::test::Fail;
+use std::thread::Threads;
 use wire_ports::{NamedBytes, SteadyFeed, SteadySink};
+use worker_gate::OpenGate;
 
 /// One datagram with one record: 12 packets, 3400 octets, first 1000, last 2000.
 const ONE: [u8; 72] = [
@@ -168,7 +170,7 @@ const USAGE_LINE: &str =
 
 /// What a run over ports that never fail must answer, write and tell; the files are `a` and `b`.
 fn row(
-    rt: &(impl Abort + Alloc<A = Global>),
+    rt: &(impl Abort + Alloc<A = Global> + Threads + Sync),
     line: &str,
     a: &[Part],
     b: &[Part],
@@ -182,7 +184,7 @@ fn row(
     let mut err = SteadySink::new(alloc);
     out.reserve(1 << 18)?;
     err.reserve(1 << 10)?;
-    let ended = run(alloc, &words, &mut feed, &mut out, &mut err);
+    let ended = run(rt, alloc, &words, &mut feed, &mut out, &mut err, &OpenGate);
     assert_eq!(rt; ended.status, want.0);
     assert_eq!(rt; out.as_slice(), want.1.as_bytes());
     assert_eq!(rt; err.as_slice(), want.2.as_bytes());
@@ -191,7 +193,7 @@ fn row(
 
 /// A row that ends Done.
 fn done(
-    rt: &(impl Abort + Alloc<A = Global>),
+    rt: &(impl Abort + Alloc<A = Global> + Threads + Sync),
     line: &str,
     a: &[Part],
     out: &str,
@@ -302,7 +304,7 @@ fn three_files(rt: HostRuntime) -> Result<(), Fail> {
 
 /// A row of one bad file, whose fault stands at this offset.
 fn bad(
-    rt: &(impl Abort + Alloc<A = Global>),
+    rt: &(impl Abort + Alloc<A = Global> + Threads + Sync),
     a: &[Part],
     offset: usize,
     cause: Malformed,

@@ -16,51 +16,59 @@ use crate::status::Status;
 use crate::tally::tally;
 use crate::words::{Asked, read_words};
 use std::alloc::Global;
+use std::thread::Threads;
 use wire_ports::{Feed, Sink};
+use worker_gate::Gate;
 
 /// Does what the words ask for.
-fn answer<F: Feed, O: Sink>(alloc: Global, words: &[String], feed: &mut F, out: &mut O) -> Ended
+fn answer<R: Threads + Sync, F: Feed, O: Sink, G: Gate>(
+    rt: &R,
+    alloc: Global,
+    words: &[String],
+    feed: &mut F,
+    out: &mut O,
+    gate: &G,
+) -> Ended
     ensures says { Says (words_asked (map string_bytes words.now))
         (feed_shown F.files F.faults F.failed F.current F.started F.left feed.old feed.new)
         (out_shown O.faults O.taken out.old out.new)
-        result.status }
+        result.closed result.status }
     ensures untouched { LeavesFeed result.status → feed.new ≡ feed.old }
 {
     match read_words(alloc, words) {
         Asked::Tally(words) => tally(alloc, &words, feed, out),
-        Asked::Drive(words) => drive(alloc, &words, feed, out),
-        Asked::Usage => Ended {
-            status: Status::Usage,
-        },
-        Asked::NoMemory => Ended {
-            status: Status::NoMemory,
-        },
+        Asked::Drive(words) => drive(rt, alloc, &words, feed, out, gate),
+        Asked::Usage => Ended::refused(Status::Usage),
+        Asked::NoMemory => Ended::refused(Status::NoMemory),
     }
 }
 
-/// A run of the program: does what the words after its name ask for, and tells how it ended.
-pub fn run<F: Feed, O: Sink, E: Sink>(
+/// A run of the program: does what the words after its name ask for, and tells how it ended. Workers
+/// pass the gate.
+pub fn run<R: Threads + Sync, F: Feed, O: Sink, E: Sink, G: Gate>(
+    rt: &R,
     alloc: Global,
     words: &[String],
     feed: &mut F,
     out: &mut O,
     err: &mut E,
+    gate: &G,
 ) -> Ended
     ensures status { Says (words_asked (map string_bytes words.now))
         (feed_shown F.files F.faults F.failed F.current F.started F.left feed.old feed.new)
         (out_shown O.faults O.taken out.old out.new)
-        result.status }
+        result.closed result.status }
     ensures determined { (names : Names) → F.files feed.old ≡ Some names → IsDecided (words_asked (map string_bytes words.now)) names result.status }
     ensures complete { (names : Names) (status : Status) → F.files feed.old ≡ Some names → Determines (words_asked (map string_bytes words.now)) names status
         → ¬ HasRisen (F.faults feed.old) (F.faults feed.new) → ¬ HasRisen (O.faults out.old) (O.faults out.new)
         → (result.status ≡ status) ⊎ (result.status ≡ Status.NoMemory) }
     ensures output { (names : Names) → F.files feed.old ≡ Some names
-        → HasOutput (words_asked (map string_bytes words.now)) names (out_shown O.faults O.taken out.old out.new) result.status }
+        → HasOutput (words_asked (map string_bytes words.now)) names (out_shown O.faults O.taken out.old out.new) result.closed result.status }
     ensures report { (names : Names) (text : List ℕ) → F.files feed.old ≡ Some names → IsReportOf (words_asked (map string_bytes words.now)) names text
         → result.status ≡ Status.Done → Appends (O.taken out.old) text (O.taken out.new) }
     ensures untouched { LeavesFeed result.status → feed.new ≡ feed.old }
     ensures message { Tells (message_of result.status) (E.taken err.old) (E.taken err.new) (E.faults err.old) (E.faults err.new) }
 {
-    let ended = answer(alloc, words, feed, out);
+    let ended = answer(rt, alloc, words, feed, out, gate);
     tell(alloc, err, ended)
 }

@@ -148,6 +148,8 @@ fn tally_asked(alloc: Global, words: &[String]) -> Asked
 
 /// The drive with these numbers, where each was in its range.
 fn drive_with(alloc: Global, buckets: Option<u32>, share: Option<u32>, name: Option<&str>) -> Asked
+    requires buckets { ForSome buckets (λ n. (1 ≤ n) × (n ≤ 65536)) }
+    requires share { ForSome share (λ n. (1 ≤ n) × (n ≤ 65536)) }
     ensures { Gives result (drive_of buckets share (option_map (λ s. s.now) name.entry)) }
 {
     let Some(buckets) = buckets else {

@@ -7,7 +7,9 @@ use netflow_five::Malformed;
 use std::alloc::Global;
 use std::process::Abort;
 use std::test::Fail;
+use std::thread::Threads;
 use wire_ports::{MemoryFeed, MemorySink};
+use worker_gate::OpenGate;
 
 /// Which calls of the ports fail.
 #[derive(Clone, Copy)]
@@ -25,7 +27,7 @@ const NONE: Failing = Failing {
 
 /// Runs `tally NAME` over a file `a`, a feed of 32 bytes a piece and sinks of 8 bytes a piece.
 fn device(
-    rt: &(impl Abort + Alloc<A = Global>),
+    rt: &(impl Abort + Alloc<A = Global> + Threads + Sync),
     line: &str,
     a: &[Part],
     failing: Failing,
@@ -37,7 +39,7 @@ fn device(
     let mut feed = MemoryFeed::new(files, vec![in alloc; failing.feed]?, 32);
     let mut out = MemorySink::new(alloc, vec![in alloc; failing.out]?, 8, 1 << 10)?;
     let mut err = MemorySink::new(alloc, vec![in alloc; failing.err]?, 8, 1 << 10)?;
-    let ended = run(alloc, &words, &mut feed, &mut out, &mut err);
+    let ended = run(rt, alloc, &words, &mut feed, &mut out, &mut err, &OpenGate);
     assert_eq!(rt; ended.status, want.0);
     assert_eq!(rt; out.as_slice(), want.1.as_bytes());
     assert_eq!(rt; err.as_slice(), want.2.as_bytes());

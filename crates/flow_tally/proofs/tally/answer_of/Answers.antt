@@ -12,8 +12,8 @@ use Rattle.flow_tally.specs.Outcome.{totals_of}
 use Rattle.flow_tally.proofs.Gathering.{length-pairs_of}
 use Rattle.flow_tally.proofs.tally.answer_of.Goals as goal
 
-pub returns-in-Ok-report : goal.returns-in-Ok-report
-returns-in-Ok-report c = λ contents ds is.
+pub returns-in-Ok-report-clause-report : goal.returns-in-Ok-report-clause-report
+returns-in-Ok-report-clause-report c = λ contents ds is.
     let flows = c.in-Ok-flows_of.flows in
     let total : IsFold (pairs_of (all_records ds)) (get key_cmp c.in-Ok.flows) =
     subst (λ (z : Flows). IsFold z (get key_cmp c.in-Ok.flows)) (c.deref.ensures.value ∙ is.all.pairs) c.in-Ok.ensures.folds in

@@ -1,5 +1,0 @@
-use Rattle.call_script.proofs.SomeRun.{some_run}
-use Rattle.call_script.proofs.laws.lines_have_a_run.Goals as goal
-
-pub returns : goal.returns
-returns c = some_run

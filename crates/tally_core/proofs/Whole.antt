@@ -1,0 +1,247 @@
+-- The closed object has just the callers' lines.
+use Rattle.std.specs.List.{AllByRecursion}
+use Rattle.std.proofs.Common.{◌≡◌, ◌≢◌, ◌∙◌, ℕ, ◌+◌, ◌<◌, ◌||◌, ◌≤◌, ⊎_elim, [], ◌∷◌, ◌++◌}
+use Rattle.std.proofs.Common.{suc, zero, Bool, true, false, cond, eqb, eq-eqb, ne_eqb, All, List, append-nil, get_or, length, map, take, refl, sym, ap, subst, arith}
+use Rattle.std.proofs.Math.Seq.{take-append_seam}
+use Rattle.std.proofs.Math.ListN.{get_or-eq_default}
+use Rattle.std.proofs.lemmas.Bool.{cases_lt, eqb-true}
+use Rattle.std.proofs.lemmas.List.{get_or-map, length-map}
+use Rattle.std.proofs.lemmas.List.Elements.{filter-append}
+use mathlib.Core.List.{map-append}
+use mathlib.Core.Option.{some}
+use lib.ListN.{get_elem?}
+use Rattle.big_atomic.specs.Seats.{all_numbers, all_stands}
+use Rattle.call_script.proofs.ClosedRun.{closed_run}
+use Rattle.call_script.specs.Row.{AreOwn, EndsAs, HasCalled, StocksAre, made_of}
+use Rattle.call_script.specs.Run.{Made, RunsIn, made_lines, own_lines}
+use Rattle.call_script.specs.Script.{MayRun}
+use Rattle.call_script.specs.declared.driven.Driven.{Driven}
+use Rattle.seat_history.specs.Object.{Object, blank_object, object_after}
+use Rattle.seat_history.specs.declared.call.Call.TheVariants.{Release}
+use Rattle.seat_history.specs.declared.entry.Entry.{Entry}
+use Rattle.seat_history.specs.declared.reply.Reply.{Reply}
+use Rattle.seat_history.specs.declared.reply.Reply.TheVariants.{Done}
+use Rattle.step_rules.specs.Closing.{ClosedData}
+use Rattle.step_rules.specs.History.{GoesOn}
+use Rattle.step_rules.specs.Lawful.{entry_of}
+use Rattle.step_rules.specs.Line.{stands_by}
+use Rattle.step_rules.specs.SeatData.{ObjectData, SeatData}
+use Rattle.step_rules.specs.Views.{count_up, number}
+use Rattle.step_rules.specs.World.{has}
+use Rattle.step_rules.specs.declared.plan.Plan.{Plan}
+use Rattle.step_rules.specs.declared.view.Stand.{Stand}
+use Rattle.tally_core.proofs.Coming.{lines_past}
+use Rattle.tally_core.proofs.StandStocks.{stocks_more}
+use Rattle.tally_core.specs.Driving.{HasDriven, last_release, leaves}
+use Rattle.tally_core.specs.Workers.{HasClosed, HasMerged, HasRun, HaveRun, IsDone, entries_of, lines_by, replies_at, replies_of, seats_of}
+use Rattle.tally_core.specs.declared.callers.Caller.{Caller}
+
+-- all stands are this caller's
+abbrev AllBy : ℕ → List Stand → Type 0
+AllBy x stands = AllByRecursion (λ (s : Stand). s.by ≡ x) stands
+
+all_kept : (x : ℕ) (stands : List Stand) → AllBy x stands → stands_by x stands ≡ stands
+all_kept x [] all = refl
+all_kept x (s ∷ later) all = ap (λ b. cond b (s ∷ stands_by x later) (stands_by x later)) (eq-eqb s.by x all.0) ∙ ap (λ l. s ∷ l) (all_kept x later all.1)
+
+none_kept : (x y : ℕ) (stands : List Stand) → AllBy x stands → x ≢ y → stands_by y stands ≡ []
+none_kept x y [] all other = refl
+none_kept x y (s ∷ later) all other =
+    ap (λ b. cond b (s ∷ stands_by y later) (stands_by y later)) (ne_eqb s.by y (λ e. other (sym all.0 ∙ e))) ∙ none_kept x y later all.1 other
+
+each_by : (x : ℕ) (stands : List Stand) → ((i : ℕ) (s : Stand) → get_elem? stands i ≡ some s → s.by ≡ x) → AllBy x stands
+each_by x [] each = tt
+each_by x (s ∷ later) each = (each 0 s refl, each_by x later (λ i t at. each (suc i) t at))
+
+or_true : (b : Bool) → (b || false) ≡ true → b ≡ true
+or_true true e = refl
+or_true false e = e
+
+the_one : (x y : ℕ) → has (x ∷ []) y ≡ true → y ≡ x
+the_one x y e = sym (eqb-true x y (or_true (eqb x y) e))
+
+named_on : (one : Caller) (later : List Caller) (m : ℕ) → number one.seat.view ≡ m → ((i : ℕ) (d : Caller) → i < length later → number (get_or later i d).seat.view ≡ suc m + i)
+    → (i : ℕ) (d : Caller) → i < length (one ∷ later) → number (get_or (one ∷ later) i d).seat.view ≡ m + i
+named_on one later m first rest zero d l = omega (arith, first)
+named_on one later m first rest (suc i) d l = omega (arith, rest i d (omega (arith, l)))
+
+module _ {shared : ObjectData} {lines : List Entry} where
+  all_by : {x : ℕ} {one : Caller} → HasRun shared lines x one → AllBy x one.seat.view.stands
+  all_by {x} {one} run = each_by x one.seat.view.stands (λ i s at. the_one x s.by (subst (λ l. has l s.by ≡ true) run.numbers (run.done.law.sound.lawful.by i s at)))
+
+  -- the callers stand by rising number
+  pub numbered : (m k : ℕ) (callers : List Caller) → HaveRun shared lines callers → all_numbers (seats_of callers) ≡ count_up m k
+      → (length callers ≡ k) × ((i : ℕ) (d : Caller) → i < length callers → number (get_or callers i d).seat.view ≡ m + i)
+  numbered m zero [] run is = (refl, λ i d l. absurd (omega (arith, l)))
+  numbered m (suc k) [] run is = absurd cc
+  numbered m zero (one ∷ later) run is = absurd (none_then one.seat.view.numbers (number one.seat.view) (all_numbers (seats_of later)) (run 0 one (omega arith)).numbers is)
+    where
+      none_then : (xs : List ℕ) (x : ℕ) (ys : List ℕ) → xs ≡ x ∷ [] → xs ++ ys ≡ [] → ⊥
+      none_then [] x ys e f = absurd cc
+      none_then (z ∷ xs) x ys e f = absurd cc
+  numbered m (suc k) (one ∷ later) run is =
+      let first = (run 0 one (omega arith)).numbers in
+      let whole : number one.seat.view ∷ all_numbers (seats_of later) ≡ m ∷ count_up (suc m) k = sym (ap (λ l. l ++ all_numbers (seats_of later)) first) ∙ is in
+      let rest = numbered (suc m) k later (λ i d l. run (suc i) d (omega (arith, l))) cc in (
+        ap suc rest.0,
+        named_on one later m (cc whole) rest.1,
+      )
+
+  -- none of their stands is another's
+  none_by : (z : ℕ) (callers : List Caller) → HaveRun shared lines callers → ((i : ℕ) (d : Caller) → i < length callers → number (get_or callers i d).seat.view ≢ z)
+      → stands_by z (all_stands (seats_of callers)) ≡ []
+  none_by z [] run others = refl
+  none_by z (one ∷ later) run others =
+      filter-append (λ (s : Stand). eqb s.by z) one.seat.view.stands (all_stands (seats_of later))
+      ∙ (λ i. none_kept (number one.seat.view) z one.seat.view.stands (all_by (run 0 one (omega arith))) (others 0 one (omega arith)) i
+      ++ none_by z later (λ j d l. run (suc j) d (omega (arith, l))) (λ j d l. others (suc j) d (omega (arith, l))) i)
+
+  -- the stands of the caller at a place
+  pub stands_at : (m : ℕ) (callers : List Caller) → HaveRun shared lines callers → ((i : ℕ) (d : Caller) → i < length callers → number (get_or callers i d).seat.view ≡ m + i)
+      → (x : ℕ) (d : Caller) → x < length callers → stands_by (m + x) (all_stands (seats_of callers)) ≡ (get_or callers x d).seat.view.stands
+  stands_at m [] run numbers x d l = absurd (omega (arith, l))
+  stands_at m (one ∷ later) run numbers zero d l =
+      let here : number one.seat.view ≡ m + 0 = numbers 0 one (omega arith) in
+      filter-append (λ (s : Stand). eqb s.by (m + 0)) one.seat.view.stands (all_stands (seats_of later))
+      ∙ ((λ i. all_kept (m + 0) one.seat.view.stands (subst (λ n. AllBy n one.seat.view.stands) here (all_by (run 0 one (omega arith)))) i
+      ++ none_by (m + 0) later (λ j d l. run (suc j) d (omega (arith, l))) (λ j e k same. absurd (omega (arith, same, numbers (suc j) e (omega (arith, k))))) i)
+      ∙ append-nil one.seat.view.stands)
+  stands_at m (one ∷ later) run numbers (suc x) d l =
+      let here : number one.seat.view ≡ m + 0 = numbers 0 one (omega arith) in
+      let next : suc m + x ≡ m + suc x = omega arith in
+      filter-append (λ (s : Stand). eqb s.by (m + suc x)) one.seat.view.stands (all_stands (seats_of later))
+      ∙ ((λ i. none_kept (number one.seat.view) (m + suc x) one.seat.view.stands (all_by (run 0 one (omega arith))) (λ e. absurd (omega (arith, e, here))) i
+      ++ stands_by (sym next i) (all_stands (seats_of later)))
+      ∙ stands_at (suc m) later (λ j d l. run (suc j) d (omega (arith, l))) (λ j e k. numbers (suc j) e (omega (arith, k)) ∙ omega arith) x d (omega (arith, l)))
+
+made_both : (stands : List Stand) → map made_of stands ≡ made_lines (entries_of stands) (replies_of stands)
+made_both [] = refl
+made_both (s ∷ later) = ap (λ l. made_of s ∷ l) (made_both later)
+
+own_and_last : (b : Bool) (r : Made) (own last stands : List Stand) → r.line.call ≡ Release → stands ≡ own ++ last → map made_of last ≡ cond b (r ∷ []) [] → AreOwn b own stands
+own_and_last true r own [] stands call parts ending = absurd cc
+own_and_last true r own (s ∷ []) stands call parts ending = let first : made_of s ≡ r = cc ending in (s, ap (λ (m : Made). m.line.call) first ∙ call, parts)
+own_and_last true r own (s ∷ t ∷ later) stands call parts ending = absurd cc
+own_and_last false r own [] stands call parts ending = parts ∙ append-nil own
+own_and_last false r own (s ∷ later) stands call parts ending = absurd cc
+
+-- a caller's stands in the closed object
+record IsCaller (lines : List Entry) (replies : List Reply) (closed : ClosedData) (x : ℕ) : Type 0 where
+  own : List Stand
+  last : List Stand
+  parts : stands_by x closed.stands ≡ own ++ last
+  made : map made_of own ≡ own_lines x (made_lines lines replies)
+  ending : map made_of last ≡ last_release lines x
+  long : length own ≡ length (lines_by x lines)
+  stocks : StocksAre closed.plan closed.history (stands_by x closed.stands)
+
+lines_beyond : (callers : ℕ) (object : Object) (lines : List Entry) (x : ℕ) → MayRun callers object lines → (x < callers → ⊥) → lines_by x lines ≡ []
+lines_beyond callers object [] x may beyond = refl
+lines_beyond callers object (line ∷ lines) x may beyond =
+    lines_past x line lines (λ e. beyond (subst (λ n. n < callers) e may.0.0)) ∙ lines_beyond callers (object_after object line) lines x may.2 beyond
+
+some_of : (callers : List Caller) → 0 < length callers → Caller
+some_of [] long = absurd (omega (arith, long))
+some_of (one ∷ later) long = one
+
+-- each caller has as many replies as lines
+pub all_told : {shared : ObjectData} {lines : List Entry} (callers : List Caller) → HaveRun shared lines callers → all_numbers (seats_of callers) ≡ count_up 0 shared.plan.seats
+    → MayRun shared.plan.seats blank_object lines → (x : ℕ) → length (lines_by x lines) ≡ length (replies_at callers x)
+all_told {shared} {lines} callers run whole may x = ⊎_elim there beyond (cases_lt x (length callers))
+  where
+    order : (length callers ≡ shared.plan.seats) × ((i : ℕ) (d : Caller) → i < length callers → number (get_or callers i d).seat.view ≡ 0 + i)
+    order = numbered {shared = shared} {lines = lines} 0 shared.plan.seats callers run whole
+
+    there : x < length callers → length (lines_by x lines) ≡ length (replies_at callers x)
+    there l =
+        let d = some_of callers (omega (arith, l)) in
+        let one = get_or callers x d in
+        let ran : HasRun shared lines x one = subst (λ n. HasRun shared lines n one) (order.1 x d l ∙ omega arith) (run x d l) in
+        let told : replies_at callers x ≡ one.replies.items = get_or-map (λ (c : Caller). c.replies.items) callers x d [] l in
+        sym (ap length ran.called.entries) ∙ (length-map ran.called.own entry_of
+        ∙ (sym (length-map ran.called.own (λ (s : Stand). s.reply)) ∙ (ap length ran.called.replies_are ∙ sym (ap length told))))
+
+    beyond : length callers ≤ x → length (lines_by x lines) ≡ length (replies_at callers x)
+    beyond l =
+        ap length (lines_beyond shared.plan.seats blank_object lines x may (λ k. absurd (omega (arith, k, l, order.0))))
+        ∙ sym (ap length (get_or-eq_default (map (λ (c : Caller). c.replies.items) callers) [] (omega (arith, l, length-map callers (λ (c : Caller). c.replies.items)))))
+
+-- all seats are done
+pub all_done : {shared : ObjectData} {lines : List Entry} (callers : List Caller) → HaveRun shared lines callers → All (λ (one : Caller). IsDone shared one.seat) callers
+all_done callers run i d l = (run i d l).done
+
+module _ {shared : ObjectData} {lines : List Entry} (callers : List Caller) {replies : List Reply} {closed : ClosedData} (run : HaveRun shared lines callers)
+    (merged : HasMerged lines (replies_at callers) replies) (closes : HasClosed shared (seats_of callers) closed)
+    (whole : all_numbers (seats_of callers) ≡ count_up 0 shared.plan.seats) where
+  long : length callers ≡ shared.plan.seats
+  long = (numbered {shared = shared} {lines = lines} 0 shared.plan.seats callers run whole).0
+
+  named : (i : ℕ) (d : Caller) → i < length callers → number (get_or callers i d).seat.view ≡ 0 + i
+  named = (numbered {shared = shared} {lines = lines} 0 shared.plan.seats callers run whole).1
+
+  caller_at : (x : ℕ) (d : Caller) → x < length callers → IsCaller lines replies closed x
+  caller_at x d l =
+      let one = get_or callers x d in
+      let here : x ≡ 0 + x = omega arith in
+      let ran : HasRun shared lines x one = subst (λ n. HasRun shared lines n one) (named x d l ∙ omega arith) (run x d l) in
+      let called = ran.called in
+      let stands : stands_by x closed.stands ≡ one.seat.view.stands = ap (stands_by x) closes.stands
+      ∙ (ap (λ n. stands_by n (all_stands (seats_of callers))) here ∙ stands_at {shared = shared} {lines = lines} 0 callers run named x d l) in
+      let told : replies_at callers x ≡ one.replies.items = get_or-map (λ (c : Caller). c.replies.items) callers x d [] l in
+      let goes : GoesOn one.seat.view.seen closed.history =
+      subst (λ (s : SeatData). GoesOn s.view.seen closed.history) (get_or-map (λ (c : Caller). c.seat) callers x d d.seat l)
+      (closes.seen x d.seat (omega (arith, l, length-map callers (λ (c : Caller). c.seat)))) in
+      record {
+        own = called.own;
+        last = called.last;
+        parts = stands ∙ called.parts;
+        made = made_both called.own ∙ ((λ i. made_lines (called.entries i) ((called.replies_are ∙ sym told) i)) ∙ sym (merged.each x));
+        ending = called.ending;
+        long = sym (length-map called.own entry_of) ∙ ap length called.entries;
+        stocks = subst (StocksAre closed.plan closed.history) (sym stands)
+            (subst (λ (p : Plan). StocksAre p closed.history one.seat.view.stands) (sym closes.plan_is)
+            (stocks_more shared.plan one.seat.view.seen closed.history one.seat.view.stands (λ i s at. (ran.done.law.sound.lawful.right i s at).place) goes ran.stocks));
+      }
+
+  abbrev own_stands : ℕ → List Stand
+  own_stands x = take (length (lines_by x lines)) (stands_by x closed.stands)
+
+  owned : {x : ℕ} (c : IsCaller lines replies closed x) → own_stands x ≡ c.own
+  owned {x} c = (λ i. take (sym c.long i) (c.parts i)) ∙ take-append_seam c.own c.last
+
+  caller_of : (x : ℕ) → x < closed.plan.seats → IsCaller lines replies closed x
+  caller_of x l =
+      let within : x < length callers = omega (arith, l, long, ap (λ (p : Plan). p.seats) closes.plan_is) in
+      caller_at x (some_of callers (omega (arith, within))) within
+
+  has_called : HasCalled closed (leaves lines) own_stands lines replies
+  has_called = record {
+    each_replied = merged.count;
+    stands = λ x l. let c = caller_of x l in
+        subst (λ (own : List Stand). AreOwn (leaves lines x) own (stands_by x closed.stands)) (sym (owned c))
+        (own_and_last (leaves lines x) (record { line = record { caller = x; call = Release }; reply = Done }) c.own c.last (stands_by x closed.stands) refl c.parts c.ending);
+    made = λ x l. let c = caller_of x l in ap (map made_of) (owned c) ∙ c.made;
+    stocks = λ x l. (caller_of x l).stocks;
+  }
+
+  -- what was called, merged and closed is what comes of the script
+  pub has_driven : (driven : Driven) → MayRun shared.plan.seats blank_object lines → EndsAs closed driven → driven.replies ≡ replies → HasDriven shared.plan lines driven closed
+  has_driven driven may ends told =
+      let plan = closes.plan_is in
+      let seat = closes.closed_is.0 in
+      let here : MayRun closed.plan.seats blank_object lines = subst (λ (p : Plan). MayRun p.seats blank_object lines) (sym plan) may in
+      let called : HasCalled closed (leaves lines) own_stands lines driven.replies = subst (HasCalled closed (leaves lines) own_stands lines) (sym told) has_called in
+      let found = closed_run seat closed (leaves lines) own_stands lines driven closes.closed_is.1 called here ends closes.none_retired in
+      record {
+        plan_is = plan;
+        closed_is = closes.closed_is;
+        called = λ x l. let c = caller_of x (omega (arith, l, ap (λ (p : Plan). p.seats) plan)) in
+            ap (map made_of) c.parts ∙ (map-append made_of c.own c.last
+            ∙ (λ i. (c.made ∙ ap (λ rs. own_lines x (made_lines lines rs)) (sym told)) i ++ c.ending i));
+        order = found.0;
+        is_order = found.1;
+        in_line = found.2;
+        runs = subst (λ (p : Plan). RunsIn p found.0 lines driven) plan found.3;
+        none_retired = closes.none_retired;
+        contents = ends;
+      }
