@@ -21,9 +21,10 @@ NUMBERS_A_THREAD = 1 << 20
 PANEL_WIDTH, PANEL_HEIGHT, GAP, TOP_MARGIN = 220, 170, 60, 50
 
 
-def compile_plain(folder: str) -> str:
-    program = f"{folder}/registers"
-    source = str(TOP / "bench/registers.cpp")
+def compile_plain(folder: str, name: str) -> str:
+    """The yardstick of this name in bench/, compiled."""
+    program = f"{folder}/{name}"
+    source = str(TOP / f"bench/{name}.cpp")
     subprocess.run(["g++", "-O2", "-std=c++17", "-pthread", "-o", program, source], check=True)
     return program
 
@@ -141,7 +142,7 @@ def main() -> None:
     asked = words.parse_args()
     with tempfile.TemporaryDirectory() as folder:
         proved = str(TOP / "crates/register_speed/out/register_speed")
-        best = measure([proved, compile_plain(folder)], asked, folder)
+        best = measure([proved, compile_plain(folder, "registers")], asked, folder)
     print_table(best)
     pathlib.Path(asked.out).write_text(draw(best, asked))
 

@@ -1,9 +1,9 @@
 #!/usr/bin/env python3
-"""Writes a stream of register numbers: 32 bits each, the least byte first.
+"""Writes a stream of the numbers of registers or keys: 32 bits each, the least byte first.
 
-usage: write_stream.py FILE COUNT REGISTERS uniform|zipf
+usage: write_stream.py FILE COUNT NUMBERS uniform|zipf
 
-Under zipf the register k is drawn with a weight of 1 / (k + 1). The same words give the same file.
+Under zipf the number k is drawn with a weight of 1 / (k + 1)^0.99. The same words give the same file.
 """
 import random
 import struct
@@ -13,13 +13,13 @@ from itertools import accumulate
 SHAPES = ("uniform", "zipf")
 
 
-def write_stream(path: str, count: int, registers: int, shape: str) -> None:
-    choose = random.Random(f"{count} {registers} {shape}")
+def write_stream(path: str, count: int, most: int, shape: str) -> None:
+    choose = random.Random(f"{count} {most} {shape}")
     if shape == "uniform":
-        numbers = [choose.randrange(registers) for _ in range(count)]
+        numbers = [choose.randrange(most) for _ in range(count)]
     else:
-        weights = list(accumulate(1 / (k + 1) for k in range(registers)))
-        numbers = choose.choices(range(registers), cum_weights=weights, k=count)
+        weights = list(accumulate((k + 1) ** -0.99 for k in range(most)))
+        numbers = choose.choices(range(most), cum_weights=weights, k=count)
     with open(path, "wb") as out:
         out.write(struct.pack(f"<{count}I", *numbers))
 
