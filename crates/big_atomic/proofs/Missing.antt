@@ -1,7 +1,8 @@
 -- A swap that is answered No after a load of the old record has seen more of the history.
-use Rattle.std.proofs.Common.{◌≡◌, ◌≢◌, ℕ, ◌+◌, ◌*◌, ◌<◌, ◌≤◌, List, [], ◌∷◌, ◌++◌, length, refl, ap, subst, ◌∙◌, arith, ⊎_elim, length-append}
+use Rattle.std.proofs.Common.{◌≡◌, ◌≢◌, ℕ, ◌+◌, ◌*◌, ◌<◌, ◌≤◌, List, ◌++◌, length, refl, ap, subst, ◌∙◌, arith, ⊎_elim, length-append}
 use Rattle.std.proofs.lemmas.Bool.{cases_lt}
 use Rattle.std.proofs.lemmas.List.{append-nil}
+use Rattle.big_atomic.proofs.Sharing.{none_left}
 use Rattle.big_atomic.specs.Calls.{IsLoaded, IsSwapped}
 use Rattle.big_atomic.specs.Stands.{HasSeenMore}
 use Rattle.big_atomic.specs.declared.answers.Swap.TheVariants.{No}
@@ -10,10 +11,6 @@ use Rattle.seat_history.specs.declared.entry.Entry.{Entry}
 use Rattle.step_rules.specs.History.{GoesOn}
 use Rattle.step_rules.specs.SeatData.{IsOf, ObjectData, SeatData}
 use Rattle.step_rules.specs.declared.plan.Plan.{Plan}
-
-none_left : (xs : List Entry) → length xs ≡ 0 → xs ≡ []
-none_left [] e = refl
-none_left (x ∷ xs) e = absurd (omega arith)
 
 same_end : (vs ws : List Entry) → GoesOn vs ws → length ws ≤ length vs → ws ≡ vs
 same_end vs ws goes l = let e : length ws ≡ length vs + length goes.0 = ap length goes.1 ∙ length-append vs goes.0 in

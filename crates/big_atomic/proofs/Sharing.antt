@@ -1,9 +1,10 @@
 -- Seats that were split and joined, and when a seat is ready.
 use Rattle.std.proofs.Common.{◌≡◌, ◌∙◌, ℕ, ◌-◌, ◌*◌, ◌<◌, ◌≤◌, suc, zero, true, false, not, ◌&&◌, ◌==◌, List, [], ◌∷◌, ◌++◌, All, Bool}
-use Rattle.std.proofs.Common.{append-nil, append_assoc, arith, ap, is_some, length, map, refl, reverse, slice_index, slice_index_or, subst, sym, take}
+use Rattle.std.proofs.Common.{append-nil, append_assoc, arith, ap, is_some, length, map, refl, reverse, slice_index_or, subst, sym, take}
 use Rattle.std.proofs.lemmas.Bool.{and_parts, both_ways, eqb-true, false≢true}
 use Rattle.std.proofs.lemmas.List.Elements.{All-push}
 use Rattle.std.proofs.lemmas.List.{get_or-reverse, length-drop, length-map, length-reverse, reverse-append, take-append-drop}
+use Rattle.big_atomic.proofs.SeatNumbers.{single}
 use Rattle.big_atomic.specs.Ready.{IsReady}
 use Rattle.big_atomic.specs.Seats.{AreSplit, IsUnused}
 use Rattle.step_rules.specs.Claims.{BACK, HOLD, OWN, WALK}
@@ -83,11 +84,6 @@ fresh_unused shared seat ready fresh one =
       changes = unused.changes ∙ (ap (λ n. seat.view.plan.changes * n) one ∙ (all ∙ ap (λ p. p.changes) ready.ours.plan));
     }
 
-one_number : (numbers : List ℕ) → length numbers ≡ 1 → numbers ≡ slice_index numbers 0 ∷ []
-one_number [] e = absurd (omega arith)
-one_number (n ∷ []) e = refl
-one_number (n ∷ m ∷ r) e = absurd (omega arith)
-
 -- the new seat has one number
 pub made_one : (old kept made : SeatData) → IsSplit old kept made → 1 < length old.view.numbers → length made.view.numbers ≡ 1
 made_one old kept made split more = ap (λ (s : SeatData). length s.view.numbers) split.right ∙ (length-drop (length old.view.numbers - 1) old.view.numbers ∙ omega arith)
@@ -95,7 +91,7 @@ made_one old kept made split more = ap (λ (s : SeatData). length s.view.numbers
 -- and the old one kept the numbers before it
 pub split_numbers : (old kept made : SeatData) → IsSplit old kept made → 1 < length old.view.numbers → kept.view.numbers ++ number made.view ∷ [] ≡ old.view.numbers
 split_numbers old kept made split more =
-    (λ i. (split.left i).view.numbers ++ sym (one_number made.view.numbers (made_one old kept made split more)) i)
+    (λ i. (split.left i).view.numbers ++ sym (single made.view.numbers (made_one old kept made split more)) i)
     ∙ ((λ i. take (length old.view.numbers - 1) old.view.numbers ++ (split.right i).view.numbers) ∙ take-append-drop (length old.view.numbers - 1) old.view.numbers)
 
 abbrev number_in : SeatData → ℕ
@@ -135,7 +131,7 @@ split_whole shared seat first made seats far few is =
     let one : length first.view.numbers ≡ 1 = omega (arith, far.ready.law.sound.some_number) in
     let in_order : seats ≡ first ∷ reverse made = is ∙ reverse_push made first in
     let numbers : map (λ (s : SeatData). number s.view) seats ≡ seat.view.numbers = ap (map number_in) in_order
-    ∙ (ap (λ l. l ++ map number_in (reverse made)) (sym (one_number first.view.numbers one)) ∙ far.numbers) in record {
+    ∙ (ap (λ l. l ++ map number_in (reverse made)) (sym (single first.view.numbers one)) ∙ far.numbers) in record {
       count = sym (length-map seats number_in) ∙ ap length numbers;
       numbers = numbers;
       unused = subst (All (IsUnused shared)) (sym is) (All-reverse (IsUnused shared) (made ++ first ∷ [])
@@ -150,6 +146,6 @@ joined_more first mid part rest whole left is left_is was = ap (λ l. l ++ rest)
 pub joined_whole : {X : Type 0} (first rest whole : List X) → rest ≡ [] → first ++ rest ≡ whole → first ≡ whole
 joined_whole first rest whole none was = sym (ap (λ l. first ++ l) none ∙ append-nil first) ∙ was
 
-pub none_left : (seats : List SeatData) → length seats ≡ 0 → seats ≡ []
+pub none_left : {X : Type 0} (xs : List X) → length xs ≡ 0 → xs ≡ []
 none_left [] e = refl
-none_left (s ∷ r) e = absurd (omega arith)
+none_left (x ∷ r) e = absurd (omega arith)

@@ -51,7 +51,7 @@ fn take_in(shared: &Shared, first: &mut Member, other: Member)
 pub(crate) fn finish(shared: Shared, member: Member) -> Outcome
     requires done { HasDone shared member }
     requires whole { length member.seat.view.numbers ≡ shared.plan.seats }
-    ensures { IsEnding result.closed result.yes result.torn }
+    ensures { IsEnding shared.plan result.closed result.yes result.torn }
 {
     let Member { seat, yes, torn } = member;
     let closed = shared.close(seat);

@@ -51,7 +51,7 @@ pub(crate) fn run<R: Threads + Sync>(
     alloc: Global,
     asked: &Asked,
 ) -> Result<Option<Outcome>, AllocError>
-    ensures { IfOk result (λ told. IfSome told (λ outcome. IsEnding outcome.closed outcome.yes outcome.torn)) }
+    ensures { IfOk result (λ told. IfSome told (λ outcome. IsEnding asked.now.plan outcome.closed outcome.yes outcome.torn)) }
 {
     let Ok((shared, seat)) = build(alloc, &asked.plan) else {
         return Ok(None);
