@@ -1,60 +1,45 @@
 -- The calls of a thread: what each is, its key, and the value that it brings.
-use Rattle.std.specs.Prelude.{◌≡◌, ◌+◌, ◌-◌, ◌*◌, ◌%◌, ◌^◌, ◌==◌, nat_lt, ℕ, Bool, true, false, List, length, if◌then◌else◌}
-use Rattle.seat_history.specs.declared.call.Call.{Call}
-use Rattle.seat_history.specs.declared.call.Call.TheVariants.{Find, Insert}
+use Rattle.std.specs.Prelude.{◌≡◌, ◌+◌, ◌-◌, ◌*◌, ◌/◌, ◌%◌, ◌^◌, ◌==◌, nat_lt, ℕ, List, Option, Some, None, slice_index, if◌then◌else◌}
 use Rattle.seat_history.specs.declared.key.KeyWords.{KeyWords}
-use Rattle.seat_history.specs.declared.reply.Reply.{Reply}
-use Rattle.seat_history.specs.declared.reply.Reply.TheVariants.{Done, Present}
-use Rattle.speed_runs.specs.Runs.{IsNew}
 use Rattle.speed_runs.specs.Streams.{drawn}
-use Rattle.step_rules.specs.declared.view.Stand.{Stand}
 use Rattle.table_speed.specs.Asking.{evens}
 use Rattle.table_speed.specs.declared.asked.Asked.{Asked}
 use Rattle.table_speed.specs.declared.asked.Kind.{Kind}
-use Rattle.table_speed.specs.declared.asked.Kind.TheVariants.{Find as FindKind, Insert as InsertKind, Mix}
+use Rattle.table_speed.specs.declared.asked.Kind.TheVariants.{Find as FindKind, Insert as InsertKind, Mix, Sum}
 use Rattle.table_speed.specs.declared.turns.Step.{Step}
-use Rattle.table_speed.specs.declared.turns.Step.TheVariants.{Find as FindStep, Insert as InsertStep}
+use Rattle.table_speed.specs.declared.turns.Step.TheVariants.{Find as FindStep, Insert as InsertStep, Replace as ReplaceStep}
 
--- what the timed call i is: in a mix they are finds and inserts in turn
-abbrev pub timed_step : Kind → ℕ → Step
-timed_step FindKind i = FindStep
-timed_step InsertKind i = InsertStep
-timed_step Mix i = if i % 2 == 0 then FindStep else InsertStep
+-- what comes after a find that found this: an insert of its key where it is absent, else a replace of the value
+abbrev pub step_after : Option (List ℕ) → Step
+step_after None = InsertStep
+step_after (Some val) = ReplaceStep val
 
--- what call i is: the first ones fill the table
-abbrev pub step_of : Asked → ℕ → Step
-step_of asked i = if nat_lt i asked.filling then InsertStep else timed_step asked.kind (i - asked.filling)
+-- what the timed call i is, where the last find found this: in a mix they are finds and inserts in turn, in a sum finds and what comes after each
+abbrev pub timed_step : Kind → ℕ → Option (List ℕ) → Step
+timed_step FindKind i found = FindStep
+timed_step InsertKind i found = InsertStep
+timed_step Mix i found = if i % 2 == 0 then FindStep else InsertStep
+timed_step Sum i found = if i % 2 == 0 then FindStep else step_after found
+
+-- what call i is, where the last find found this: the first ones fill the table
+abbrev pub step_of : Asked → ℕ → Option (List ℕ) → Step
+step_of asked i found = if nat_lt i asked.filling then InsertStep else timed_step asked.kind (i - asked.filling) found
+
+-- how often a thread drew a key before its timed call i: a sum draws one for two calls
+abbrev pub draw_of : Kind → ℕ → ℕ
+draw_of Sum i = i / 2
+draw_of _ i = i
 
 -- the key number of a thread's call i: the threads fill the table with the even ones in turn, and draw the others
 abbrev pub index_of : Asked → ℕ → ℕ → ℕ
 index_of asked thread i = if nat_lt i asked.filling then 2 * ((thread + asked.plan.seats * i) % evens asked.keys)
-    else drawn asked.numbers.items asked.calls thread (i - asked.filling) % asked.keys
+    else drawn asked.numbers.items asked.calls thread (draw_of asked.kind (i - asked.filling)) % asked.keys
 
 -- the key of a key number: the number mixed, and the number
 abbrev pub key_of : ℕ → KeyWords
 key_of index = record { k0 = (index * 6364136223846793005 + 1442695040888963407) % 2 ^ 64; k1 = index }
 
--- call i of a thread: a find of this key, or an insert of it with a new value
-abbrev pub IsStep : Step → KeyWords → ℕ → ℕ → Call → Type 0
-IsStep FindStep key thread i (Find k) = k ≡ key
-IsStep InsertStep key thread i (Insert k val) = (k ≡ key) × IsNew thread i val
-IsStep _ key thread i call = ⊥
-
--- the stand of a thread's call i
-pub record IsTurn (asked : Asked) (thread i : ℕ) (s : Stand) : Type 0 where
-  pub by : s.by ≡ thread
-  pub call : IsStep (step_of asked i) (key_of (index_of asked thread i)) thread i s.call
-
--- the stand comes next of a thread, after these
-abbrev pub IsNext : Asked → ℕ → List Stand → Stand → Type 0
-IsNext asked thread before s = IsTurn asked thread (length before) s
-
-abbrev pub is_made_call : Call → Reply → Bool
-is_made_call (Find key) reply = true
-is_made_call (Insert key val) Done = true
-is_made_call (Insert key val) (Present there) = true
-is_made_call _ reply = false
-
--- a find, or an insert that was answered Done or Present
-abbrev pub is_made : Stand → Bool
-is_made s = is_made_call s.call s.reply
+-- the words are an old value's sum with the call's: the first word is the old first one and that of a new value, and the second names the caller
+pub record IsSum (old : List ℕ) (thread i : ℕ) (new : List ℕ) : Type 0 where
+  pub sum : slice_index new 0 ≡ (slice_index old 0 + (i + 1)) % 2 ^ 64
+  pub caller : slice_index new 1 ≡ thread

@@ -13,6 +13,8 @@ pub(crate) enum Kind {
     Insert,
     /// Finds and inserts in turn.
     Mix,
+    /// Finds, and after each an insert or a replace of the same key by what was found.
+    Sum,
 }
 
 /// What is to be done: so many timed calls by each seat of the plan's, with the keys that the numbers

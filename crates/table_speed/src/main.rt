@@ -1,4 +1,4 @@
-//! Threads that find and insert keys in one table, to be timed.
+//! Threads that find, insert and replace keys in one table, to be timed.
 #![tactic(auto)]
 
 mod asked;
@@ -10,13 +10,15 @@ use cache_hash::Plan;
 use speed_runs::{Words, print_counts, read_words, run};
 use std::io;
 
-const USAGE: &str = "table_speed [time] THREADS BUCKETS KEYS CALLS SHARE find|insert|mix [FILE]";
+const USAGE: &str =
+    "table_speed [time] THREADS BUCKETS KEYS CALLS SHARE find|insert|mix|sum [FILE]";
 
 fn read_kind(word: &str) -> Option<Kind> {
     match word {
         "find" => Some(Kind::Find),
         "insert" => Some(Kind::Insert),
         "mix" => Some(Kind::Mix),
+        "sum" => Some(Kind::Sum),
         _ => None,
     }
 }
@@ -26,6 +28,7 @@ fn word_of(kind: Kind) -> &'static str {
         Kind::Find => "find",
         Kind::Insert => "insert",
         Kind::Mix => "mix",
+        Kind::Sum => "sum",
     }
 }
 

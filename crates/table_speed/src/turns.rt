@@ -1,7 +1,7 @@
 //! The calls of a thread: what each is, its key, and the value that it brings.
 ghost use Rattle.std.specs.Prelude.{◌≡◌, ◌+◌, ◌<◌};
 ghost use Rattle.speed_runs.specs.Runs.{IsNew};
-ghost use Rattle.table_speed.specs.Turns.{index_of, key_of, step_of, timed_step};
+ghost use Rattle.table_speed.specs.Turns.{IsSum, draw_of, index_of, key_of, step_after, step_of, timed_step};
 
 use crate::asked::{Asked, Kind, evens};
 use cache_hash::{KeyWords, VALUE_WIDTH, ValWords};
@@ -16,27 +16,41 @@ const INCREMENT: u64 = 1_442_695_040_888_963_407;
 pub(crate) enum Step {
     Find,
     Insert,
+    /// A replace of this value.
+    Replace(ValWords),
 }
 
-/// What a thread's call i is. The first ones fill the table.
-pub(crate) fn step_of(asked: &Asked, i: u32) -> Step
-    ensures { result ≡ step_of asked.now i }
+/// What a thread's call i is, where its last find found this. The first ones fill the table.
+pub(crate) fn step_of(asked: &Asked, i: u32, found: Option<ValWords>) -> Step
+    ensures { result ≡ step_of asked.now i found }
 {
     if i < asked.filling {
         return Step::Insert;
     }
-    timed_step(asked.kind, i - asked.filling)
+    timed_step(asked.kind, i - asked.filling, found)
 }
 
-// What the timed call i is. In a mix an insert comes after each find.
-fn timed_step(kind: Kind, i: u32) -> Step
-    ensures { result ≡ timed_step kind i }
+// What the timed call i is. In a mix an insert comes after each find, in a sum an insert or a replace.
+fn timed_step(kind: Kind, i: u32, found: Option<ValWords>) -> Step
+    ensures { result ≡ timed_step kind i found }
 {
     match kind {
         Kind::Find => Step::Find,
         Kind::Insert => Step::Insert,
         Kind::Mix if i % 2 == 0 => Step::Find,
         Kind::Mix => Step::Insert,
+        Kind::Sum if i % 2 == 0 => Step::Find,
+        Kind::Sum => step_after(found),
+    }
+}
+
+// What comes after a find that found this.
+fn step_after(found: Option<ValWords>) -> Step
+    ensures { result ≡ step_after found }
+{
+    match found {
+        None => Step::Insert,
+        Some(old) => Step::Replace(old),
     }
 }
 
@@ -48,8 +62,19 @@ pub(crate) fn index_of(asked: &Asked, thread: u32, i: u32) -> u32
         let place = u64::from(thread) + u64::from(asked.plan.seats) * u64::from(i);
         return 2 * (place % u64::from(evens(asked.keys))) as u32;
     }
-    let number = draw(&asked.numbers, asked.calls, thread, i - asked.filling);
+    let draws = draw_of(asked.kind, i - asked.filling);
+    let number = draw(&asked.numbers, asked.calls, thread, draws);
     (number % u64::from(asked.keys)) as u32
+}
+
+// How often the thread drew a key before its timed call i: a sum draws one for two calls.
+fn draw_of(kind: Kind, i: u32) -> u32
+    ensures { result ≡ draw_of kind i }
+{
+    match kind {
+        Kind::Sum => i / 2,
+        _ => i,
+    }
 }
 
 /// The key of a key number: the number mixed, and the number.
@@ -68,5 +93,14 @@ pub(crate) fn value_of(thread: u32, i: u32) -> ValWords
     let mut new = [0; VALUE_WIDTH];
     new[0] = u64::from(i) + 1;
     new[1] = u64::from(thread);
+    new
+}
+
+/// The sum that a thread's call i brings in place of this value.
+pub(crate) fn sum_of(old: ValWords, thread: u32, i: u32) -> ValWords
+    ensures { IsSum old thread i result }
+{
+    let mut new = value_of(thread, i);
+    new[0] = old[0].wrapping_add(new[0]);
     new
 }

@@ -6,6 +6,7 @@ use Rattle.big_atomic.proofs.Sharing.{quiet_ready, ready_quiet}
 use Rattle.big_atomic.specs.Seats.{all_numbers, all_stands}
 use Rattle.hazard_claims.specs.Scanning.{IsScan}
 use Rattle.seat_history.specs.declared.entry.Entry.{Entry}
+use Rattle.step_rules.proofs.Rely.Advance.{goes_further}
 use Rattle.step_rules.specs.Claims.{BACK, HOLD, OWN}
 use Rattle.step_rules.specs.Closing.{ClosedData, IsClosed}
 use Rattle.step_rules.specs.History.{GoesOn}
@@ -32,9 +33,6 @@ stands_push : (seats : List SeatData) (one : SeatData) → all_stands (seats ++ 
 stands_push [] one = append-nil one.view.stands
 stands_push (s ∷ later) one = ap (λ l. s.view.stands ++ l) (stands_push later one) ∙ sym (append_assoc s.view.stands (all_stands later) one.view.stands)
 
-goes_on : (a b c : List Entry) → GoesOn a b → GoesOn b c → GoesOn a c
-goes_on a b c first next = (first.0 ++ next.0, next.1 ∙ (ap (λ l. l ++ next.0) first.1 ∙ append_assoc a first.0 next.0))
-
 -- and with one more
 pub gathered_more : {shared : ObjectData} {seats : List SeatData} {old one new : SeatData} → HasGathered shared seats old → IsDone shared one → IsJoined old one new → IsSeat new
     → HasGathered shared (seats ++ one ∷ []) new
@@ -51,7 +49,7 @@ gathered_more {shared} {seats} {old} {one} {new} g done joined law = record {
   numbers = ap (λ (s : SeatData). s.view.numbers) joined.seat ∙ (ap (λ l. l ++ one.view.numbers) g.numbers ∙ sym (numbers_push seats one));
   stands = ap (λ (s : SeatData). s.view.stands) joined.seat ∙ (ap (λ l. l ++ one.view.stands) g.stands ∙ sym (stands_push seats one));
   seen = All-push (λ (s : SeatData). GoesOn s.view.seen new.view.seen) seats one
-      (λ i d l. goes_on (get_or seats i d).view.seen old.view.seen new.view.seen (g.seen i d l) joined.seen) joined.seen_from;
+      (λ i d l. goes_further (get_or seats i d).view.seen old.view.seen new.view.seen joined.seen.0 (g.seen i d l) joined.seen.1) joined.seen_from;
 }
 
 -- a quiet seat holds no record
