@@ -34,12 +34,16 @@ at_elem [] k d l = absurd (omega arith)
 at_elem (x ∷ xs) zero d l = refl
 at_elem (x ∷ xs) (suc k) d l = at_elem xs k d (omega arith)
 
+-- every stand is of a caller of the plan
+pub callers_below : (seat : SeatData) (closed : ClosedData) → IsSeat seat → IsClosed seat closed → All (λ (s : Stand). s.by < closed.plan.seats) closed.stands
+callers_below seat closed law is k d l = subst (λ n. (get_or closed.stands k d).by < n) (sym (ap (λ p. p.seats) is.plan))
+    (law.sound.below (get_or closed.stands k d).by (is.lawful.by k (get_or closed.stands k d) (at_elem closed.stands k d l)))
+
 pub line_counts : (test : Stand → Bool) (seat : SeatData) (closed : ClosedData) → IsSeat seat → IsClosed seat closed
     → count_by test (line_of closed.plan.seats closed.history closed.stands) ≡ count_by test closed.stands
 line_counts test seat closed law is =
     let seats : ℕ = closed.plan.seats in
-    let below : All (λ (s : Stand). s.by < seats) closed.stands = λ k d l. subst (λ n. (get_or closed.stands k d).by < n) (sym (ap (λ p. p.seats) is.plan))
-    (law.sound.below (get_or closed.stands k d).by (is.lawful.by k (get_or closed.stands k d) (at_elem closed.stands k d l))) in
+    let below = callers_below seat closed law is in
     same_count test seats (line_of seats closed.history closed.stands) closed.stands (all_line (λ (s : Stand). s.by < seats) seats closed.history closed.stands below) below is.line.order
 
 kept_along : (P : Stand → Type 0) (Keeps : List Stand → Object → Type 0) (p : Plan) (done : List Stand) (o : Object) (log : List Entry) (line : List Stand) → EachKeeps p P Keeps

@@ -22,13 +22,16 @@ one_kept : (b : Bool) (k : Key) (v : Value) → map (λ (p : Key × Value). p.1)
 one_kept true k v = refl
 one_kept false k v = refl
 
+-- the values of pairs in a row are those of each part
+pub values_at-append : (key : Key) (pairs others : List (Key × Value)) → values_at key (pairs ++ others) ≡ values_at key pairs ++ values_at key others
+unfolding values_at
+values_at-append key pairs others =
+    let has_key = λ (p : Key × Value). is_at (key_cmp key) p.0 in
+    ap (map (λ (p : Key × Value). p.1)) (filter-append has_key pairs others) ∙ map-append (λ (p : Key × Value). p.1) (filter has_key pairs) (filter has_key others)
+
 values_at-push : (key k : Key) (v : Value) (pairs : List (Key × Value)) → values_at key (pairs ++ (k, v) ∷ []) ≡ values_at key pairs ++ cond (is_at (key_cmp key) k) (v ∷ []) []
 unfolding values_at
-values_at-push key k v pairs =
-    let has_key = λ (p : Key × Value). is_at (key_cmp key) p.0 in
-    ap (map (λ (p : Key × Value). p.1)) (filter-append has_key pairs ((k, v) ∷ []))
-    ∙ map-append (λ (p : Key × Value). p.1) (filter has_key pairs) (filter has_key ((k, v) ∷ []))
-    ∙ ap (λ (vs : List Value). values_at key pairs ++ vs) (one_kept (is_at (key_cmp key) k) k v)
+values_at-push key k v pairs = values_at-append key pairs ((k, v) ∷ []) ∙ ap (λ (vs : List Value). values_at key pairs ++ vs) (one_kept (is_at (key_cmp key) k) k v)
 
 values_at-permutation : (key : Key) (pairs others : List (Key × Value)) → IsPermutation pairs others → IsPermutation (values_at key pairs) (values_at key others)
 unfolding values_at
@@ -57,7 +60,8 @@ any_order values others None p h = nil_from_length others (length_permutation va
     nil_from_length (v ∷ vs) e = absurd (omega arith)
 any_order values others (Some t) p h = total_permutation values others t p h
 
-no_total : (values : List Value) (t : Value) → values ≡ [] → IsTotal values t → ⊥
+-- no values have no total
+pub no_total : (values : List Value) (t : Value) → values ≡ [] → IsTotal values t → ⊥
 no_total values t none_there h = nothing_in t.first (subst (λ (vs : List Value). IsTotal vs t) none_there h).first.among
   where
     nothing_in : (n : ℕ) → Contains [] n → ⊥
