@@ -1,5 +1,5 @@
 -- What stands of a thread's calls, and which of them were made.
-use Rattle.std.specs.Prelude.{◌≡◌, ℕ, Bool, true, false, List, [], ◌∷◌, length, replicate}
+use Rattle.std.specs.Prelude.{◌≡◌, ℕ, Bool, true, false, List, replicate}
 use Rattle.register_speed.specs.Turns.{register_of, step_of}
 use Rattle.register_speed.specs.declared.asked.Asked.{Asked}
 use Rattle.register_speed.specs.declared.turns.Step.{Step}
@@ -9,7 +9,8 @@ use Rattle.seat_history.specs.declared.call.Call.TheVariants.{Load, Store, Swap}
 use Rattle.seat_history.specs.declared.reply.Reply.{Reply}
 use Rattle.seat_history.specs.declared.reply.Reply.TheVariants.{Words, Done, Yes, No}
 use Rattle.seat_history.specs.declared.words.TheConstants.{WIDTH}
-use Rattle.speed_runs.specs.Runs.{HasCome, IsNew}
+use Rattle.speed_runs.specs.Carrying.{HasCarried, IsNextWith}
+use Rattle.speed_runs.specs.Runs.{IsNew}
 use Rattle.step_rules.specs.SeatData.{ObjectData, SeatData}
 use Rattle.step_rules.specs.declared.view.Stand.{Stand}
 
@@ -30,10 +31,9 @@ abbrev pub words_after : List ℕ → Reply → List ℕ
 words_after loaded (Words words) = words
 words_after loaded reply = loaded
 
--- the same after these stands
-abbrev pub loaded_after : List ℕ → List Stand → List ℕ
-loaded_after loaded [] = loaded
-loaded_after loaded (s ∷ later) = loaded_after (words_after loaded s.reply) later
+-- the same, after this stand
+abbrev pub loaded_after : List ℕ → Stand → List ℕ
+loaded_after loaded s = words_after loaded s.reply
 
 -- the words of a register at the start
 abbrev pub blank : List ℕ
@@ -41,7 +41,7 @@ blank = replicate WIDTH 0
 
 -- the stand comes next of a thread, after these
 abbrev pub IsNext : Asked → ℕ → List Stand → Stand → Type 0
-IsNext asked thread before s = IsTurn asked thread (length before) (loaded_after blank before) s
+IsNext asked = IsNextWith loaded_after blank (IsTurn asked)
 
 abbrev pub is_made_call : Call → Reply → Bool
 is_made_call (Load reg) reply = true
@@ -54,11 +54,6 @@ is_made_call _ reply = false
 abbrev pub is_made : Stand → Bool
 is_made s = is_made_call s.call s.reply
 
--- the stand of a thread's call i, and the words that are the last loaded after it
-abbrev pub Leaves : Asked → ℕ → ℕ → List ℕ → List ℕ → Stand → Type 0
-Leaves asked thread i loaded now_loaded s = IsTurn asked thread i loaded s × (now_loaded ≡ words_after loaded s.reply)
-
 -- after i calls of a thread, and these words are those that it loaded last
-pub record HasLoaded (asked : Asked) (shared : ObjectData) (i : ℕ) (seat : SeatData) (loaded : List ℕ) (done : ℕ) : Type 0 where
-  pub come : HasCome (IsNext asked) is_made shared i seat done
-  pub loaded_is : loaded ≡ loaded_after blank seat.view.stands
+abbrev pub HasLoaded : Asked → ObjectData → ℕ → SeatData → List ℕ → ℕ → Type 0
+HasLoaded asked = HasCarried loaded_after blank (IsTurn asked) is_made

@@ -1,8 +1,9 @@
 //! What one thread does.
 ghost use Rattle.std.specs.Prelude.{◌≡◌, ◌+◌, ◌<◌};
 ghost use Rattle.big_atomic.specs.Ready.{IsReady};
-ghost use Rattle.register_speed.specs.Counting.{HasLoaded, IsNext, Leaves, is_made};
+ghost use Rattle.register_speed.specs.Counting.{HasLoaded, IsNext, IsTurn, is_made, loaded_after};
 ghost use Rattle.big_atomic.specs.Seats.{Stays};
+ghost use Rattle.speed_runs.specs.Carrying.{Leaves};
 ghost use Rattle.speed_runs.specs.Runs.{Adds, HasCome};
 ghost use Rattle.step_rules.specs.Views.{number};
 
@@ -86,7 +87,7 @@ fn make_call(shared: &Shared, seat: &mut Seat, loaded: &mut Rec, asked: &Asked, 
     requires plan { shared.now.plan ≡ asked.now.plan }
     requires ready { IsReady shared.now seat.old }
     requires left { 0 < seat.old.view.changes }
-    ensures adds { Adds (Leaves asked.now (number seat.old.view) i loaded.old loaded.new) is_made shared.now result seat.old seat.new }
+    ensures adds { Adds (Leaves loaded_after (IsTurn asked.now (number seat.old.view) i) loaded.old loaded.new) is_made shared.now result seat.old seat.new }
 {
     let thread = seat.number();
     let reg = register_of(asked, thread, i);

@@ -1,11 +1,12 @@
 -- What stands of a thread's calls, and which of them were made.
-use Rattle.std.specs.Prelude.{◌≡◌, ℕ, Bool, true, false, List, [], ◌∷◌, Option, Some, None, length}
+use Rattle.std.specs.Prelude.{◌≡◌, ℕ, Bool, true, false, List, Option, Some, None}
 use Rattle.seat_history.specs.declared.call.Call.{Call}
 use Rattle.seat_history.specs.declared.call.Call.TheVariants.{Find, Insert, Replace}
 use Rattle.seat_history.specs.declared.key.KeyWords.{KeyWords}
 use Rattle.seat_history.specs.declared.reply.Reply.{Reply}
 use Rattle.seat_history.specs.declared.reply.Reply.TheVariants.{Absent, Done, Found, Present, Val, Yes}
-use Rattle.speed_runs.specs.Runs.{HasCome, IsNew}
+use Rattle.speed_runs.specs.Carrying.{HasCarried, IsNextWith}
+use Rattle.speed_runs.specs.Runs.{IsNew}
 use Rattle.step_rules.specs.SeatData.{ObjectData, SeatData}
 use Rattle.step_rules.specs.declared.view.Stand.{Stand}
 use Rattle.table_speed.specs.Turns.{IsSum, index_of, key_of, step_of}
@@ -31,14 +32,13 @@ found_by found (Find key) (Val val) = Some val
 found_by found (Find key) reply = None
 found_by found call reply = found
 
--- the same after these stands
-abbrev pub found_after : Option (List ℕ) → List Stand → Option (List ℕ)
-found_after found [] = found
-found_after found (s ∷ later) = found_after (found_by found s.call s.reply) later
+-- the same, after this stand
+abbrev pub found_after : Option (List ℕ) → Stand → Option (List ℕ)
+found_after found s = found_by found s.call s.reply
 
 -- the stand comes next of a thread, after these
 abbrev pub IsNext : Asked → ℕ → List Stand → Stand → Type 0
-IsNext asked thread before s = IsTurn asked thread (length before) (found_after None before) s
+IsNext asked = IsNextWith found_after None (IsTurn asked)
 
 abbrev pub is_made_call : Call → Reply → Bool
 is_made_call (Find key) reply = true
@@ -53,11 +53,6 @@ is_made_call _ reply = false
 abbrev pub is_made : Stand → Bool
 is_made s = is_made_call s.call s.reply
 
--- the stand of a thread's call i, and what the last find found after it
-abbrev pub Leaves : Asked → ℕ → ℕ → Option (List ℕ) → Option (List ℕ) → Stand → Type 0
-Leaves asked thread i found now_found s = IsTurn asked thread i found s × (now_found ≡ found_by found s.call s.reply)
-
 -- after i calls of a thread, and this is what its last find found
-pub record HasFound (asked : Asked) (shared : ObjectData) (i : ℕ) (seat : SeatData) (found : Option (List ℕ)) (done : ℕ) : Type 0 where
-  pub come : HasCome (IsNext asked) is_made shared i seat done
-  pub found_is : found ≡ found_after None seat.view.stands
+abbrev pub HasFound : Asked → ObjectData → ℕ → SeatData → Option (List ℕ) → ℕ → Type 0
+HasFound asked = HasCarried found_after None (IsTurn asked) is_made

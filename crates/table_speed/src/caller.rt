@@ -2,9 +2,10 @@
 ghost use Rattle.std.specs.Prelude.{◌≡◌, ◌+◌, ◌<◌, ◌≤◌};
 ghost use Rattle.big_atomic.specs.Ready.{IsReady};
 ghost use Rattle.big_atomic.specs.Seats.{Stays};
+ghost use Rattle.speed_runs.specs.Carrying.{Leaves};
 ghost use Rattle.speed_runs.specs.Runs.{Adds, HasCome};
 ghost use Rattle.step_rules.specs.Views.{number};
-ghost use Rattle.table_speed.specs.Counting.{HasFound, IsNext, Leaves, is_made};
+ghost use Rattle.table_speed.specs.Counting.{HasFound, IsNext, IsTurn, found_after, is_made};
 
 use crate::asked::Asked;
 use crate::turns::{Step, index_of, key_of, step_of, sum_of, value_of};
@@ -92,7 +93,7 @@ fn make_call(
     requires plan { shared.now.plan ≡ asked.now.plan }
     requires ready { IsReady shared.now seat.old }
     requires left { 0 < seat.old.view.changes }
-    ensures adds { Adds (Leaves asked.now (number seat.old.view) i found.old found.new) is_made shared.now result seat.old seat.new }
+    ensures adds { Adds (Leaves found_after (IsTurn asked.now (number seat.old.view) i) found.old found.new) is_made shared.now result seat.old seat.new }
 {
     let thread = seat.number();
     let key = key_of(index_of(asked, thread, i));
