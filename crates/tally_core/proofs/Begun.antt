@@ -3,12 +3,10 @@ use Rattle.std.specs.List.{AllByRecursion}
 use Rattle.std.proofs.Common.{get_or, ◌≡◌, ◌∙◌, ℕ, ◌+◌, ◌*◌, ◌<◌, ◌≤◌, Bool, true, false, cond, eqb, List, [], ◌∷◌, ◌++◌, All, length, refl, sym, ap, subst, arith}
 use Rattle.std.proofs.lemmas.List.{get_or-map, length-map}
 use Rattle.std.proofs.lemmas.List.Sums.{sum_by-cons}
-use mathlib.Core.Option.{some-ne-none}
 use Rattle.big_atomic.proofs.SeatNumbers.{alone, built_numbers, single}
 use Rattle.big_atomic.specs.Seats.{AreLed, AreSplit, IsUnused, all_numbers}
 use Rattle.call_script.proofs.Turns.{may_turn}
 use Rattle.call_script.specs.Holding.{MayTurn, calls_by, holds_from}
-use Rattle.call_script.specs.Row.{StocksAre}
 use Rattle.call_script.specs.Script.{MayRun}
 use Rattle.seat_history.specs.Object.{NamesBelow, Object, blank_object, object_after}
 use Rattle.seat_history.specs.declared.call.Call.{Call}
@@ -23,7 +21,8 @@ use Rattle.step_rules.specs.Views.{number}
 use Rattle.step_rules.specs.declared.plan.Plan.{Plan}
 use Rattle.step_rules.specs.declared.view.Stand.{Stand}
 use Rattle.tally_core.proofs.Coming.{few_by}
-use Rattle.tally_core.specs.Workers.{HasCome, HasOpened, HasRoom, HaveCome, IsFor, entries_of, lines_by, removes_in, replies_of, seats_of}
+use Rattle.tally_core.proofs.StandStocks.{no_stocks}
+use Rattle.tally_core.specs.Workers.{HasCome, HasOpened, HasRoom, HasSeats, HaveCome, IsFor, entries_of, lines_by, removes_in, replies_of, seats_of}
 use Rattle.tally_core.specs.declared.callers.Caller.{Caller}
 
 is_there : (p : Plan) (call : Call) → p.registers ≡ 16 → 0 < p.buckets → NamesBelow 16 call → IsThere p call
@@ -64,9 +63,6 @@ few_removes (line ∷ lines) = omega (arith, at_most_one line.call, few_removes 
     at_most_one (Remove key) = omega arith
     at_most_one _ = omega arith
 
-no_stands : (p : Plan) (stands : List Stand) (seen : List Entry) → stands ≡ [] → StocksAre p seen stands
-no_stands p stands seen none = subst (StocksAre p seen) (sym none) (λ i s at. absurd (some-ne-none s (sym at)))
-
 -- a caller whose seat was in no call yet
 pub begun : {lines : List Entry} {shared : ObjectData} {one : Caller} → IsFor lines shared.plan → IsUnused shared one.seat → HasRoom lines one
     → HasCome shared lines (number one.seat.view) lines one
@@ -82,7 +78,7 @@ begun {lines} {shared} {one} for u room =
       entries = ap (λ (l : List Stand). entries_of l ++ lines_by x lines) u.stands;
       replies_are = ap replies_of u.stands ∙ sym room.none;
       room = room.room;
-      stocks = no_stands shared.plan v.stands v.seen u.stands;
+      stocks = no_stocks shared.plan v.stands v.seen u.stands;
       changes = omega (arith, few_by x lines, for.changes, u.changes);
       removes = omega (arith, fewer_removes x lines, for.removes, removed, none, share);
       may = subst (λ b. MayTurn b (calls_by x lines)) (sym u.none_held) (may_turn shared.plan.seats blank_object lines for.may x);
@@ -101,12 +97,22 @@ is_led : {shared : ObjectData} {seat : SeatData} (seats : List SeatData) → Are
 is_led [] split more first = absurd (omega (arith, split.count, more))
 is_led (s ∷ later) split more first = split.first s later refl ∙ first
 
--- the callers of a new object
-pub opened : {lines : List Entry} {p : Plan} {shared : ObjectData} {seat : SeatData} {seats : List SeatData} {callers : List Caller} → IsFor lines p → IsBuilt p shared seat
-    → 0 < length seat.view.numbers → AreSplit shared seat seats → seats_of callers ≡ seats → All (HasRoom lines) callers → HasOpened p lines shared callers
-opened {lines} {p} {shared} {seat} {seats} {callers} for built more split are rooms = record {
+-- the seats of a new object
+pub seated : {p : Plan} {shared : ObjectData} {seat : SeatData} {seats : List SeatData} → IsBuilt p shared seat → 0 < length seat.view.numbers → AreSplit shared seat seats
+    → HasSeats p shared seats
+seated {shared = shared} {seats = seats} built more split = record {
   plan_is = built.plan;
-  come = all_begun callers (subst (IsFor lines) (sym built.plan) for) (subst (All (IsUnused shared)) (sym are) split.unused) rooms;
-  numbers = ap all_numbers are ∙ (alone shared seats split.unused ∙ (split.numbers ∙ built_numbers built));
-  led = subst AreLed (sym are) (is_led seats split more (ap (λ (s : SeatData). s.first) built.seat));
+  unused = split.unused;
+  numbers = alone shared seats split.unused ∙ (split.numbers ∙ built_numbers built);
+  led = is_led seats split more (ap (λ (s : SeatData). s.first) built.seat);
+}
+
+-- and their callers
+pub opened : {lines : List Entry} {p : Plan} {shared : ObjectData} {seats : List SeatData} {callers : List Caller} → IsFor lines p → HasSeats p shared seats
+    → seats_of callers ≡ seats → All (HasRoom lines) callers → HasOpened p lines shared callers
+opened {lines} {shared = shared} {callers = callers} for has are rooms = record {
+  plan_is = has.plan_is;
+  come = all_begun callers (subst (IsFor lines) (sym has.plan_is) for) (subst (All (IsUnused shared)) (sym are) has.unused) rooms;
+  numbers = ap all_numbers are ∙ has.numbers;
+  led = subst AreLed (sym are) has.led;
 }

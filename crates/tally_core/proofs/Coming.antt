@@ -1,13 +1,11 @@
 -- A caller's lines, one after the other.
-use Rattle.std.proofs.Common.{◌≡◌, ◌∙◌, ℕ, ◌+◌, ◌*◌, ◌<◌, ◌≤◌, [], ◌∷◌, ◌++◌}
+use Rattle.std.proofs.Common.{◌≡◌, ◌∙◌, ℕ, ◌+◌, ◌<◌, ◌≤◌, [], ◌∷◌, ◌++◌}
 use Rattle.std.proofs.Common.{suc, Bool, true, false, cond, eqb, eq-eqb, ne_eqb, List, append-nil, append_assoc}
 use Rattle.std.proofs.Common.{drop, get_or, length, length-append, map, sym, ap, subst, arith, slice_index, vec_capacity}
 use Rattle.std.proofs.Math.Seq.{drop-cons}
 use Rattle.std.proofs.lemmas.List.{length-map}
 use Rattle.std.proofs.lemmas.List.Sums.{count_by-le-length, length-filter, sum_by-cons}
 use mathlib.Core.List.{map-append}
-use mathlib.Core.Option.{some}
-use lib.ListN.{get_elem?}
 use Rattle.big_atomic.proofs.Sharing.{ready_quiet}
 use Rattle.big_atomic.specs.Calls.{IsReleased}
 use Rattle.big_atomic.specs.Ready.{IsReady}
@@ -17,15 +15,12 @@ use Rattle.seat_history.specs.declared.call.Call.TheVariants.{Release}
 use Rattle.seat_history.specs.declared.entry.Entry.{Entry}
 use Rattle.seat_history.specs.declared.reply.Reply.{Reply}
 use Rattle.seat_history.specs.declared.reply.Reply.TheVariants.{Done}
-use Rattle.step_rules.proofs.Line.Stocks.{costs_more, gains_more}
 use Rattle.step_rules.specs.Lawful.{entry_of}
 use Rattle.step_rules.specs.Records.{removes_of}
 use Rattle.step_rules.specs.SeatData.{ObjectData, SeatData, holds_record}
-use Rattle.step_rules.specs.Stock.{costs, gains}
-use Rattle.step_rules.specs.Views.{number, stock}
-use Rattle.step_rules.specs.declared.plan.Plan.{Plan}
+use Rattle.step_rules.specs.Views.{number}
 use Rattle.step_rules.specs.declared.view.Stand.{Stand}
-use Rattle.tally_core.proofs.StandStocks.{stocks_more, stocks_push}
+use Rattle.tally_core.proofs.StandStocks.{stocks_on}
 use Rattle.tally_core.specs.Calls.{CanMake, HasMade}
 use Rattle.tally_core.specs.Driving.{leaves}
 use Rattle.tally_core.specs.Workers.{HasCome, HasRun, entries_of, lines_by, removes_in, replies_of}
@@ -47,28 +42,10 @@ few_by x lines =
     let own : Entry → Bool = λ line. eqb line.caller x in
     omega (arith, length-filter own lines, count_by-le-length own lines)
 
--- what a seat of one number has is its share, less what its stands cost, and what they gave
-stock_now : {shared : ObjectData} {seat : SeatData} {x : ℕ} → IsReady shared seat → seat.view.numbers ≡ x ∷ []
-    → stock seat.view + costs shared.plan seat.view.seen seat.view.stands ≡ shared.plan.share + gains shared.plan seat.view.seen seat.view.stands
-stock_now {seat = seat} ready numbers =
-    let v = seat.view in
-    let even = ready.law.sound.stock.even in
-    let one : v.plan.share * length v.numbers ≡ v.plan.share * 1 = ap (λ (l : List ℕ). v.plan.share * length l) numbers in
-    subst (λ (p : Plan). stock v + costs p v.seen v.stands ≡ p.share + gains p v.seen v.stands) ready.ours.plan (omega (arith, even, one))
-
 -- one stand more keeps what its seat had
 made_stocks : {shared : ObjectData} {x : ℕ} {before after : SeatData} {call : _} {reply : Reply} → IsReady shared before → before.view.numbers ≡ x ∷ [] → HasMade shared call reply before after
     → StocksAre shared.plan before.view.seen before.view.stands → StocksAre shared.plan after.view.seen after.view.stands
-made_stocks {shared} {before = before} {after = after} ready numbers made stocks =
-    let p = shared.plan in
-    let old = before.view in
-    let placed : (i : ℕ) (s : Stand) → get_elem? old.stands i ≡ some s → s.place ≤ length old.seen = λ i s at. (ready.law.sound.lawful.right i s at).place in
-    let rest = made.seen.0 in
-    let cost : costs p after.view.seen old.stands ≡ costs p old.seen old.stands = ap (λ l. costs p l old.stands) made.seen.1 ∙ costs_more p old.seen rest old.stands placed in
-    let gain : gains p after.view.seen old.stands ≡ gains p old.seen old.stands = ap (λ l. gains p l old.stands) made.seen.1 ∙ gains_more p old.seen rest old.stands placed in
-    subst (StocksAre p after.view.seen) (sym made.more)
-    (stocks_push p after.view.seen old.stands made.stand (stocks_more p old.seen after.view.seen old.stands placed made.seen stocks)
-    (omega (arith, stock_now ready numbers, made.stock_is, cost, gain)))
+made_stocks {before = before} {after = after} ready numbers made stocks = stocks_on before after made.stand ready (ap length numbers) made.more made.stock_is made.seen stocks
 
 -- there are no more replies than lines
 pub few_told : {shared : ObjectData} {lines rest : List Entry} {x : ℕ} {caller : Caller} → HasCome shared lines x rest caller → length caller.replies.items ≤ length lines

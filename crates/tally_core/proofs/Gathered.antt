@@ -2,6 +2,7 @@
 use Rattle.std.proofs.Common.{◌≡◌, ◌∙◌, true, false, not, ◌&&◌, List, [], ◌∷◌, ◌++◌, All, append-nil, append_assoc, get_or, length, sym, ap, subst, arith}
 use Rattle.std.proofs.lemmas.Bool.{and_parts, both_ways, not-true}
 use Rattle.std.proofs.lemmas.List.Elements.{All-push}
+use Rattle.big_atomic.proofs.Lines.{callers_below}
 use Rattle.big_atomic.proofs.Sharing.{quiet_ready, ready_quiet}
 use Rattle.big_atomic.specs.Seats.{all_numbers, all_stands}
 use Rattle.hazard_claims.specs.Scanning.{IsScan}
@@ -102,6 +103,7 @@ pub has_closed : {shared : ObjectData} {seats : List SeatData} {seat : SeatData}
 has_closed {seats = seats} {seat = seat} {closed = closed} scan is = record {
   plan_is = is.plan ∙ scan.done.ours.plan;
   closed_is = (seat, is);
+  callers = callers_below seat closed scan.done.law is;
   stands = is.stands ∙ scan.stands;
   seen = λ i d l. subst (λ (z : List Entry). GoesOn (get_or seats i d).view.seen z) (sym is.history) (scan.seen i d l);
   none_retired = is.retired ∙ scan.none_retired;

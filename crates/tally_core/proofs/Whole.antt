@@ -1,16 +1,12 @@
 -- The closed object has just the callers' lines.
-use Rattle.std.specs.List.{AllByRecursion}
-use Rattle.std.proofs.Common.{◌≡◌, ◌≢◌, ◌∙◌, ℕ, ◌+◌, ◌<◌, ◌||◌, ◌≤◌, ⊎_elim, [], ◌∷◌, ◌++◌}
-use Rattle.std.proofs.Common.{suc, zero, Bool, true, false, cond, eqb, eq-eqb, ne_eqb, All, List, append-nil, get_or, length, map, take, refl, sym, ap, subst, arith}
+use Rattle.std.proofs.Common.{◌≡◌, ◌∙◌, ℕ, ◌<◌, ◌≤◌, ⊎_elim, [], ◌∷◌, ◌++◌}
+use Rattle.std.proofs.Common.{Bool, true, false, cond, All, List, append-nil, get_or, length, map, take, refl, sym, ap, subst, arith}
 use Rattle.std.proofs.Math.Seq.{take-append_seam}
 use Rattle.std.proofs.Math.ListN.{get_or-eq_default}
-use Rattle.std.proofs.lemmas.Bool.{cases_lt, eqb-true}
+use Rattle.std.proofs.lemmas.Bool.{cases_lt}
 use Rattle.std.proofs.lemmas.List.{get_or-map, length-map}
-use Rattle.std.proofs.lemmas.List.Elements.{filter-append}
 use mathlib.Core.List.{map-append}
-use mathlib.Core.Option.{some}
-use lib.ListN.{get_elem?}
-use Rattle.big_atomic.specs.Seats.{all_numbers, all_stands}
+use Rattle.big_atomic.specs.Seats.{all_numbers}
 use Rattle.call_script.proofs.ClosedRun.{closed_run}
 use Rattle.call_script.specs.Row.{AreOwn, EndsAs, HasCalled, StocksAre, made_of}
 use Rattle.call_script.specs.Run.{Made, RunsIn, made_lines, own_lines}
@@ -27,92 +23,24 @@ use Rattle.step_rules.specs.Lawful.{entry_of}
 use Rattle.step_rules.specs.Line.{stands_by}
 use Rattle.step_rules.specs.SeatData.{ObjectData, SeatData}
 use Rattle.step_rules.specs.Views.{count_up, number}
-use Rattle.step_rules.specs.World.{has}
 use Rattle.step_rules.specs.declared.plan.Plan.{Plan}
 use Rattle.step_rules.specs.declared.view.Stand.{Stand}
 use Rattle.tally_core.proofs.Coming.{lines_past}
+use Rattle.tally_core.proofs.SeatStands.{IsOne, items_numbered, items_stands}
 use Rattle.tally_core.proofs.StandStocks.{stocks_more}
 use Rattle.tally_core.specs.Driving.{HasDriven, last_release, leaves}
 use Rattle.tally_core.specs.Workers.{HasClosed, HasMerged, HasRun, HaveRun, IsDone, entries_of, lines_by, replies_at, replies_of, seats_of}
 use Rattle.tally_core.specs.declared.callers.Caller.{Caller}
 
--- all stands are this caller's
-abbrev AllBy : ℕ → List Stand → Type 0
-AllBy x stands = AllByRecursion (λ (s : Stand). s.by ≡ x) stands
+-- each caller's seat is lawful, and has one number
+run_ones : {shared : ObjectData} {lines : List Entry} (callers : List Caller) → HaveRun shared lines callers → (i : ℕ) (d : Caller) → i < length callers → IsOne (get_or callers i d).seat
+run_ones callers run i d l = record { law = (run i d l).done.law; one = ap length (run i d l).numbers }
 
-all_kept : (x : ℕ) (stands : List Stand) → AllBy x stands → stands_by x stands ≡ stands
-all_kept x [] all = refl
-all_kept x (s ∷ later) all = ap (λ b. cond b (s ∷ stands_by x later) (stands_by x later)) (eq-eqb s.by x all.0) ∙ ap (λ l. s ∷ l) (all_kept x later all.1)
-
-none_kept : (x y : ℕ) (stands : List Stand) → AllBy x stands → x ≢ y → stands_by y stands ≡ []
-none_kept x y [] all other = refl
-none_kept x y (s ∷ later) all other =
-    ap (λ b. cond b (s ∷ stands_by y later) (stands_by y later)) (ne_eqb s.by y (λ e. other (sym all.0 ∙ e))) ∙ none_kept x y later all.1 other
-
-each_by : (x : ℕ) (stands : List Stand) → ((i : ℕ) (s : Stand) → get_elem? stands i ≡ some s → s.by ≡ x) → AllBy x stands
-each_by x [] each = tt
-each_by x (s ∷ later) each = (each 0 s refl, each_by x later (λ i t at. each (suc i) t at))
-
-or_true : (b : Bool) → (b || false) ≡ true → b ≡ true
-or_true true e = refl
-or_true false e = e
-
-the_one : (x y : ℕ) → has (x ∷ []) y ≡ true → y ≡ x
-the_one x y e = sym (eqb-true x y (or_true (eqb x y) e))
-
-named_on : (one : Caller) (later : List Caller) (m : ℕ) → number one.seat.view ≡ m → ((i : ℕ) (d : Caller) → i < length later → number (get_or later i d).seat.view ≡ suc m + i)
-    → (i : ℕ) (d : Caller) → i < length (one ∷ later) → number (get_or (one ∷ later) i d).seat.view ≡ m + i
-named_on one later m first rest zero d l = omega (arith, first)
-named_on one later m first rest (suc i) d l = omega (arith, rest i d (omega (arith, l)))
-
-module _ {shared : ObjectData} {lines : List Entry} where
-  all_by : {x : ℕ} {one : Caller} → HasRun shared lines x one → AllBy x one.seat.view.stands
-  all_by {x} {one} run = each_by x one.seat.view.stands (λ i s at. the_one x s.by (subst (λ l. has l s.by ≡ true) run.numbers (run.done.law.sound.lawful.by i s at)))
-
-  -- the callers stand by rising number
-  pub numbered : (m k : ℕ) (callers : List Caller) → HaveRun shared lines callers → all_numbers (seats_of callers) ≡ count_up m k
-      → (length callers ≡ k) × ((i : ℕ) (d : Caller) → i < length callers → number (get_or callers i d).seat.view ≡ m + i)
-  numbered m zero [] run is = (refl, λ i d l. absurd (omega (arith, l)))
-  numbered m (suc k) [] run is = absurd cc
-  numbered m zero (one ∷ later) run is = absurd (none_then one.seat.view.numbers (number one.seat.view) (all_numbers (seats_of later)) (run 0 one (omega arith)).numbers is)
-    where
-      none_then : (xs : List ℕ) (x : ℕ) (ys : List ℕ) → xs ≡ x ∷ [] → xs ++ ys ≡ [] → ⊥
-      none_then [] x ys e f = absurd cc
-      none_then (z ∷ xs) x ys e f = absurd cc
-  numbered m (suc k) (one ∷ later) run is =
-      let first = (run 0 one (omega arith)).numbers in
-      let whole : number one.seat.view ∷ all_numbers (seats_of later) ≡ m ∷ count_up (suc m) k = sym (ap (λ l. l ++ all_numbers (seats_of later)) first) ∙ is in
-      let rest = numbered (suc m) k later (λ i d l. run (suc i) d (omega (arith, l))) cc in (
-        ap suc rest.0,
-        named_on one later m (cc whole) rest.1,
-      )
-
-  -- none of their stands is another's
-  none_by : (z : ℕ) (callers : List Caller) → HaveRun shared lines callers → ((i : ℕ) (d : Caller) → i < length callers → number (get_or callers i d).seat.view ≢ z)
-      → stands_by z (all_stands (seats_of callers)) ≡ []
-  none_by z [] run others = refl
-  none_by z (one ∷ later) run others =
-      filter-append (λ (s : Stand). eqb s.by z) one.seat.view.stands (all_stands (seats_of later))
-      ∙ (λ i. none_kept (number one.seat.view) z one.seat.view.stands (all_by (run 0 one (omega arith))) (others 0 one (omega arith)) i
-      ++ none_by z later (λ j d l. run (suc j) d (omega (arith, l))) (λ j d l. others (suc j) d (omega (arith, l))) i)
-
-  -- the stands of the caller at a place
-  pub stands_at : (m : ℕ) (callers : List Caller) → HaveRun shared lines callers → ((i : ℕ) (d : Caller) → i < length callers → number (get_or callers i d).seat.view ≡ m + i)
-      → (x : ℕ) (d : Caller) → x < length callers → stands_by (m + x) (all_stands (seats_of callers)) ≡ (get_or callers x d).seat.view.stands
-  stands_at m [] run numbers x d l = absurd (omega (arith, l))
-  stands_at m (one ∷ later) run numbers zero d l =
-      let here : number one.seat.view ≡ m + 0 = numbers 0 one (omega arith) in
-      filter-append (λ (s : Stand). eqb s.by (m + 0)) one.seat.view.stands (all_stands (seats_of later))
-      ∙ ((λ i. all_kept (m + 0) one.seat.view.stands (subst (λ n. AllBy n one.seat.view.stands) here (all_by (run 0 one (omega arith)))) i
-      ++ none_by (m + 0) later (λ j d l. run (suc j) d (omega (arith, l))) (λ j e k same. absurd (omega (arith, same, numbers (suc j) e (omega (arith, k))))) i)
-      ∙ append-nil one.seat.view.stands)
-  stands_at m (one ∷ later) run numbers (suc x) d l =
-      let here : number one.seat.view ≡ m + 0 = numbers 0 one (omega arith) in
-      let next : suc m + x ≡ m + suc x = omega arith in
-      filter-append (λ (s : Stand). eqb s.by (m + suc x)) one.seat.view.stands (all_stands (seats_of later))
-      ∙ ((λ i. none_kept (number one.seat.view) (m + suc x) one.seat.view.stands (all_by (run 0 one (omega arith))) (λ e. absurd (omega (arith, e, here))) i
-      ++ stands_by (sym next i) (all_stands (seats_of later)))
-      ∙ stands_at (suc m) later (λ j d l. run (suc j) d (omega (arith, l))) (λ j e k. numbers (suc j) e (omega (arith, k)) ∙ omega arith) x d (omega (arith, l)))
+-- the callers stand by rising number
+numbered : {shared : ObjectData} {lines : List Entry} (callers : List Caller) → HaveRun shared lines callers → all_numbers (seats_of callers) ≡ count_up 0 shared.plan.seats
+    → (length callers ≡ shared.plan.seats) × ((i : ℕ) (d : Caller) → i < length callers → number (get_or callers i d).seat.view ≡ i)
+numbered {shared} {lines} callers run whole =
+    items_numbered (λ (one : Caller). one.seat) callers shared.plan.seats whole (λ i d l. (run_ones {shared = shared} {lines = lines} callers run i d l).one)
 
 made_both : (stands : List Stand) → map made_of stands ≡ made_lines (entries_of stands) (replies_of stands)
 made_both [] = refl
@@ -149,14 +77,14 @@ pub all_told : {shared : ObjectData} {lines : List Entry} (callers : List Caller
     → MayRun shared.plan.seats blank_object lines → (x : ℕ) → length (lines_by x lines) ≡ length (replies_at callers x)
 all_told {shared} {lines} callers run whole may x = ⊎_elim there beyond (cases_lt x (length callers))
   where
-    order : (length callers ≡ shared.plan.seats) × ((i : ℕ) (d : Caller) → i < length callers → number (get_or callers i d).seat.view ≡ 0 + i)
-    order = numbered {shared = shared} {lines = lines} 0 shared.plan.seats callers run whole
+    order : (length callers ≡ shared.plan.seats) × ((i : ℕ) (d : Caller) → i < length callers → number (get_or callers i d).seat.view ≡ i)
+    order = numbered {shared = shared} {lines = lines} callers run whole
 
     there : x < length callers → length (lines_by x lines) ≡ length (replies_at callers x)
     there l =
         let d = some_of callers (omega (arith, l)) in
         let one = get_or callers x d in
-        let ran : HasRun shared lines x one = subst (λ n. HasRun shared lines n one) (order.1 x d l ∙ omega arith) (run x d l) in
+        let ran : HasRun shared lines x one = subst (λ n. HasRun shared lines n one) (order.1 x d l) (run x d l) in
         let told : replies_at callers x ≡ one.replies.items = get_or-map (λ (c : Caller). c.replies.items) callers x d [] l in
         sym (ap length ran.called.entries) ∙ (length-map ran.called.own entry_of
         ∙ (sym (length-map ran.called.own (λ (s : Stand). s.reply)) ∙ (ap length ran.called.replies_are ∙ sym (ap length told))))
@@ -174,19 +102,18 @@ module _ {shared : ObjectData} {lines : List Entry} (callers : List Caller) {rep
     (merged : HasMerged lines (replies_at callers) replies) (closes : HasClosed shared (seats_of callers) closed)
     (whole : all_numbers (seats_of callers) ≡ count_up 0 shared.plan.seats) where
   long : length callers ≡ shared.plan.seats
-  long = (numbered {shared = shared} {lines = lines} 0 shared.plan.seats callers run whole).0
+  long = (numbered {shared = shared} {lines = lines} callers run whole).0
 
-  named : (i : ℕ) (d : Caller) → i < length callers → number (get_or callers i d).seat.view ≡ 0 + i
-  named = (numbered {shared = shared} {lines = lines} 0 shared.plan.seats callers run whole).1
+  named : (i : ℕ) (d : Caller) → i < length callers → number (get_or callers i d).seat.view ≡ i
+  named = (numbered {shared = shared} {lines = lines} callers run whole).1
 
   caller_at : (x : ℕ) (d : Caller) → x < length callers → IsCaller lines replies closed x
   caller_at x d l =
       let one = get_or callers x d in
-      let here : x ≡ 0 + x = omega arith in
-      let ran : HasRun shared lines x one = subst (λ n. HasRun shared lines n one) (named x d l ∙ omega arith) (run x d l) in
+      let ran : HasRun shared lines x one = subst (λ n. HasRun shared lines n one) (named x d l) (run x d l) in
       let called = ran.called in
       let stands : stands_by x closed.stands ≡ one.seat.view.stands = ap (stands_by x) closes.stands
-      ∙ (ap (λ n. stands_by n (all_stands (seats_of callers))) here ∙ stands_at {shared = shared} {lines = lines} 0 callers run named x d l) in
+      ∙ items_stands (λ (z : Caller). z.seat) callers shared.plan.seats whole (run_ones {shared = shared} {lines = lines} callers run) x d l in
       let told : replies_at callers x ≡ one.replies.items = get_or-map (λ (c : Caller). c.replies.items) callers x d [] l in
       let goes : GoesOn one.seat.view.seen closed.history =
       subst (λ (s : SeatData). GoesOn s.view.seen closed.history) (get_or-map (λ (c : Caller). c.seat) callers x d d.seat l)

@@ -1,3 +1,6 @@
+pub mod Adding
+pub mod Attempts
 pub mod Calls
 pub mod Driving
+pub mod Tallying
 pub mod Workers

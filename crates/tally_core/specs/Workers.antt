@@ -2,7 +2,7 @@
 use Rattle.std.specs.Prelude.{◌≡◌, ℕ, ◌<◌, ◌≤◌, ◌==◌, true, All, List, [], ◌∷◌, ◌++◌, filter, length, map, slice_index_or, vec_capacity}
 use Rattle.std.specs.List.{AllByRecursion, sum_by}
 use Rattle.big_atomic.specs.Ready.{IsReady}
-use Rattle.big_atomic.specs.Seats.{AreLed, all_numbers, all_stands}
+use Rattle.big_atomic.specs.Seats.{AreLed, IsUnused, all_numbers, all_stands}
 use Rattle.call_script.specs.Holding.{MayTurn, calls_by, holds_from}
 use Rattle.call_script.specs.Row.{StocksAre, made_of}
 use Rattle.call_script.specs.Run.{made_lines, own_lines}
@@ -104,6 +104,13 @@ pub record HasRoom (lines : List Entry) (one : Caller) : Type 0 where
   pub none : one.replies.items ≡ []
   pub room : length (lines_by (number one.seat.view) lines) ≤ vec_capacity one.replies
 
+-- an object of the plan, and a seat for each of its numbers, the first of which takes in the others
+pub record HasSeats (p : Plan) (shared : ObjectData) (seats : List SeatData) : Type 0 where
+  pub plan_is : shared.plan ≡ p
+  pub unused : All (IsUnused shared) seats
+  pub numbers : all_numbers seats ≡ count_up 0 p.seats
+  pub led : AreLed seats
+
 -- an object of the plan, and a caller for each of its numbers, the first of whom takes in the others
 pub record HasOpened (p : Plan) (lines : List Entry) (shared : ObjectData) (callers : List Caller) : Type 0 where
   pub plan_is : shared.plan ≡ p
@@ -123,6 +130,7 @@ pub record HasGathered (shared : ObjectData) (seats : List SeatData) (seat : Sea
 pub record HasClosed (shared : ObjectData) (seats : List SeatData) (closed : ClosedData) : Type 0 where
   pub plan_is : closed.plan ≡ shared.plan
   pub closed_is : (seat : SeatData) × IsClosed seat closed
+  pub callers : All (λ (s : Stand). s.by < closed.plan.seats) closed.stands
   pub stands : closed.stands ≡ all_stands seats
   pub seen : All (λ (one : SeatData). GoesOn one.view.seen closed.history) seats
   pub none_retired : closed.retired ≡ []

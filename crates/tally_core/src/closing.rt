@@ -1,9 +1,10 @@
 //! All callers' seats in one, and the object closed with it.
 ghost use Rattle.std.specs.List.{range_with_len};
-ghost use Rattle.std.specs.Prelude.{◌≡◌, All, IfOk, length, map};
+ghost use Rattle.std.specs.Prelude.{◌≡◌, All, IfOk, List, length, map};
 ghost use Rattle.big_atomic.specs.Seats.{AreLed, all_numbers};
 ghost use Rattle.call_script.specs.Row.{EndsAs};
 ghost use Rattle.seat_history.specs.History.{state_at};
+ghost use Rattle.step_rules.specs.SeatData.{SeatData};
 ghost use Rattle.step_rules.specs.Views.{count_up};
 ghost use Rattle.tally_core.specs.Workers.{HasClosed, HasGathered, IsDone, seats_of};
 ghost use Rattle.tally_core.specs.declared.callers.Caller.{Caller};
@@ -15,14 +16,23 @@ use hazard_claims::scan;
 use seat_history::Reply;
 use std::alloc::{AllocError, Global};
 
-/// Closes the object with all callers' seats. A last scan leaves nothing retired.
+/// Closes the object with all callers' seats.
 pub(crate) fn close_all(shared: Shared, callers: Vec<Caller>) -> Closed
     requires done { All (λ (one : Caller). IsDone shared one.seat) callers.items }
     requires led { AreLed (seats_of callers.items) }
     requires whole { all_numbers (seats_of callers.items) ≡ count_up 0 shared.plan.seats }
     ensures closed { HasClosed shared (seats_of callers.items) result }
 {
-    let mut seat = gather(&shared, callers);
+    let seat = gather(&shared, callers);
+    close_gathered(shared, seat)
+}
+
+/// Closes the object with the seat that took in all others. A last scan leaves nothing retired.
+pub(crate) fn close_gathered(shared: Shared, seat: Seat) -> Closed
+    requires gathered { (seats : List SeatData) × HasGathered shared seats seat × (all_numbers seats ≡ count_up 0 shared.plan.seats) }
+    ensures closed { (seats : List SeatData) → HasGathered shared seats seat → all_numbers seats ≡ count_up 0 shared.plan.seats → HasClosed shared seats result }
+{
+    let mut seat = seat;
     scan(&shared, &mut seat);
     shared.close(seat)
 }

@@ -1,6 +1,8 @@
-//! Workers on one shared object: the calls of a script, each caller's in a thread of its own.
+//! Workers on one shared object: the calls of a script, each caller's in a thread of its own, and pairs
+//! added up by several.
 #![tactic(auto)]
 
+mod adding;
 mod callers;
 mod calls;
 mod closing;
@@ -10,6 +12,7 @@ mod merging;
 mod opening;
 mod ran;
 mod replies;
+mod tallying;
 #[cfg(test)]
 mod tests;
 mod worker;
@@ -17,3 +20,4 @@ mod worker;
 pub use driving::drive;
 pub use laws::script_plan_fits;
 pub use ran::Ran;
+pub use tallying::{Tallied, TallyEnd, tally};

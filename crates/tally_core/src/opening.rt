@@ -3,7 +3,7 @@ ghost use Rattle.std.specs.Prelude.{◌≡◌, ◌≤◌, ◌^◌, All, IfOk, le
 ghost use Rattle.call_script.specs.Run.{plan_of};
 ghost use Rattle.step_rules.specs.Layout.{IsPlan, nodes};
 ghost use Rattle.step_rules.specs.Records.{removes_of};
-ghost use Rattle.tally_core.specs.Workers.{HasOpened, HasRoom, IsFor, lines_by, removes_in, seats_of};
+ghost use Rattle.tally_core.specs.Workers.{HasOpened, HasRoom, HasSeats, IsFor, lines_by, removes_in, seats_of};
 
 use crate::callers::Caller;
 use big_atomic::{Building, NoMemory, Plan, Seat, Shared, build, split_all};
@@ -60,14 +60,24 @@ pub(crate) fn open(
     requires script { IsFor lines.now plan.now }
     ensures opened { IfOk result (λ made. HasOpened plan.now lines.now made.0 made.1.items) }
 {
+    let (shared, seats) = open_seats(alloc, plan)?;
+    let callers = seat_callers(alloc, seats, lines)?;
+    Ok((shared, callers))
+}
+
+/// Builds the object of a plan that isn't too large, and a seat for each of its numbers.
+pub(crate) fn open_seats(alloc: Global, plan: &Plan) -> Result<(Shared, Vec<Seat>), NoMemory>
+    requires plan { IsPlan plan.now }
+    requires fits { nodes plan.now ≤ 2 ^ 24 }
+    ensures opened { IfOk result (λ made. HasSeats plan.now made.0 made.1.items) }
+{
     let (shared, seat) = match build(alloc, plan) {
         Ok(made) => made,
         Err(Building::NoMemory) => return Err(NoMemory),
         Err(Building::TooLarge { .. }) => unreachable!(),
     };
     let seats = split_all(alloc, &shared, seat)?;
-    let callers = seat_callers(alloc, seats, lines)?;
-    Ok((shared, callers))
+    Ok((shared, seats))
 }
 
 // A caller for each seat, with room for the replies to its lines.

@@ -1,5 +1,6 @@
-use crate::{Ran, drive};
+use crate::{Ran, Tallied, TallyEnd, drive, tally};
 use call_script::{Counts, read_script};
+use flow_fold::{Key, Value, flows_of, fold};
 use seat_history::Reply;
 use std::alloc::Global;
 use std::test::Fail;
@@ -65,5 +66,142 @@ fn four_callers_count_up(rt: HostRuntime) -> Result<(), Fail> {
     let register = ran.driven.registers.as_slice().first().copied();
     assert_eq!(rt; register, Some([yes as u64, 0, 0, 0, 0]));
     assert_eq!(rt; replies.len(), 800);
+    Ok(())
+}
+
+// How a tally is made: by so many workers, of so many flows at most, with so many buckets.
+#[derive(Clone, Copy, Drop)]
+struct Size {
+    workers: u32,
+    flows: u32,
+    buckets: u32,
+}
+
+// Tallies pairs within the limits of a tally.
+fn tallied<R: Threads + Sync, G: Gate>(
+    rt: &R,
+    alloc: Global,
+    pairs: &[(Key, Value)],
+    size: Size,
+    gate: &G,
+) -> Result<Result<Tallied, TallyEnd>, Fail> {
+    let Size {
+        workers,
+        flows,
+        buckets,
+    } = size;
+    if workers < 1 || workers > 64 || flows < 1 || flows > 1_048_576 {
+        return Err(Fail::new("workers or flows"));
+    }
+    if buckets < 1 || buckets > 1_048_576 || pairs.len() > 8_388_608 {
+        return Err(Fail::new("buckets or pairs"));
+    }
+    if workers * (2 * flows + 4 * workers + 1) + buckets > 16_777_216 {
+        return Err(Fail::new("nodes"));
+    }
+    Ok(tally(rt, alloc, pairs, workers, flows, buckets, gate))
+}
+
+// So many pairs, whose keys are as many where this is no multiple of 7919, in no order.
+fn some_pairs(alloc: Global, count: u32, keys: u32) -> Result<Vec<(Key, Value)>, Fail> {
+    let mut pairs = Vec::new(alloc);
+    for i in 0..count {
+        let n = i.wrapping_mul(7_919).checked_rem(keys).unwrap_or(0);
+        let key = Key {
+            k0: u64::from(n % 3),
+            k1: u64::from(n),
+        };
+        let value = Value {
+            packets: u64::from(i),
+            octets: u64::MAX,
+            first: i % 101,
+            last: i % 103,
+        };
+        pairs.push((key, value))?;
+    }
+    Ok(pairs)
+}
+
+// Workers make of the pairs what one thread makes of them.
+fn folds<R: Threads + Sync>(
+    rt: &R,
+    alloc: Global,
+    pairs: &[(Key, Value)],
+    size: Size,
+) -> Result<bool, Fail> {
+    let told = tallied(rt, alloc, pairs, size, &OpenGate)??;
+    let flows = flows_of(alloc, &fold(alloc, pairs)?)?;
+    Ok(told.flows.as_slice() == flows.as_slice())
+}
+
+#[test]
+fn workers_fold_as_one_thread(rt: HostRuntime) -> Result<(), Fail> {
+    // How many pairs, and how many keys; by so many workers, with so many flows and buckets.
+    let rows = [
+        (0, 1, 4, 1, 16),
+        (1, 1, 64, 1, 1),
+        (300, 1, 1, 1, 16),
+        (300, 1, 4, 1, 1),
+        (300, 300, 2, 300, 1),
+        (900, 300, 4, 300, 1),
+        (900, 300, 63, 300, 64),
+        (2_000, 1_000, 64, 1_000, 512),
+        (2_000, 2_000, 4, 4_000, 7),
+    ];
+    for (count, keys, workers, flows, buckets) in rows {
+        let pairs = some_pairs(rt.alloc(), count, keys)?;
+        let size = Size {
+            workers,
+            flows,
+            buckets,
+        };
+        assert!(rt; folds(&rt, rt.alloc(), pairs.as_slice(), size)?);
+    }
+    Ok(())
+}
+
+#[test]
+fn one_key_more_is_too_many(rt: HostRuntime) -> Result<(), Fail> {
+    let pairs = some_pairs(rt.alloc(), 900, 300)?;
+    for workers in [1, 2, 4, 64] {
+        let size = Size {
+            workers,
+            flows: 299,
+            buckets: 16,
+        };
+        let told = tallied(&rt, rt.alloc(), pairs.as_slice(), size, &OpenGate)?;
+        assert!(rt; matches!(told, Err(TallyEnd::TooManyFlows)));
+    }
+    Ok(())
+}
+
+#[test]
+fn full_seats_are_too_many_flows(rt: HostRuntime) -> Result<(), Fail> {
+    let pairs = some_pairs(rt.alloc(), 2_000, 2_000)?;
+    let size = Size {
+        workers: 2,
+        flows: 1,
+        buckets: 1,
+    };
+    let told = tallied(&rt, rt.alloc(), pairs.as_slice(), size, &OpenGate)?;
+    assert!(rt; matches!(told, Err(TallyEnd::TooManyFlows)));
+    Ok(())
+}
+
+#[test]
+fn two_workers_meet(rt: HostRuntime) -> Result<(), Fail> {
+    let gate = MeetGate::new(67_108_864);
+    let pairs = some_pairs(rt.alloc(), 900, 300)?;
+    let size = Size {
+        workers: 2,
+        flows: 300,
+        buckets: 16,
+    };
+    let told = tallied(&rt, rt.alloc(), pairs.as_slice(), size, &gate)??;
+    assert!(rt; gate.met());
+    assert_eq!(rt; told.flows.as_slice().len(), 300);
+    // Each key has one record, and each empty bucket a node.
+    assert_eq!(rt; told.closed.counts().retired, 0);
+    assert!(rt; told.closed.counts().live >= 300);
     Ok(())
 }

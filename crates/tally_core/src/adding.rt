@@ -1,0 +1,158 @@
+//! What a worker of a tally does, in its own thread.
+ghost use Rattle.std.specs.Prelude.{◌≡◌, ◌+◌, ◌*◌, ◌/◌, ◌<◌, ◌≤◌, ◌^◌, None, Some, [], length, not};
+ghost use Rattle.big_atomic.specs.Seats.{IsUnused, Stays};
+ghost use Rattle.flow_fold.specs.Flows.{Flows};
+ghost use Rattle.step_rules.specs.Views.{number};
+ghost use Rattle.tally_core.specs.Adding.{key_words, slice_of};
+ghost use Rattle.tally_core.specs.Attempts.{HasAddedOne, HasTried, HasWorked, IsAdding, IsTrying};
+
+use big_atomic::{Seat, Shared};
+use cache_hash::{Insert, Replace, find, insert, replace};
+use flow_fold::{Key, Value, merge};
+use seat_history::{KeyWords, ValWords};
+use worker_gate::Gate;
+
+/// A worker's seat, and whether a call of it was answered Full.
+#[derive(Drop)]
+pub(crate) struct Adder {
+    pub(crate) seat: Seat,
+    pub(crate) full: bool,
+}
+
+/// What comes of one call for a pair.
+#[derive(Drop)]
+pub(crate) enum Try {
+    /// The pair is added.
+    Added,
+    /// Another caller was first: the key's value is this now.
+    Again { there: Option<ValWords> },
+    /// The pair isn't added, since fewer nodes are free than are needed.
+    Full,
+}
+
+/// Passes the gate, and adds the pairs of the worker's slice in order, until a call is answered Full. No
+/// memory is taken.
+pub(crate) fn add_slice<G: Gate>(
+    shared: &Shared,
+    seat: Seat,
+    pairs: &[(Key, Value)],
+    workers: u32,
+    gate: &G,
+) -> Adder
+    requires unused { IsUnused shared.now seat }
+    requires some { 0 < shared.now.plan.buckets }
+    requires number { number seat.view < workers }
+    requires few { length pairs.now ≤ 2 ^ 23 }
+    requires changes { length pairs.now ≤ shared.now.plan.changes }
+    ensures worked { HasWorked shared.now (slice_of workers (number result.seat.view) pairs.now) result.full result.seat }
+    ensures stays { Stays seat result.seat }
+{
+    let mut seat = seat;
+    let number = seat.number();
+    gate.pass(number, 0);
+    let added = add_pairs(shared, &mut seat, slice(pairs, workers, number));
+    Adder { seat, full: !added }
+}
+
+// The pairs of the worker with this number.
+fn slice(pairs: &[(Key, Value)], workers: u32, number: u32) -> &[(Key, Value)]
+    requires number { number < workers }
+    requires few { length pairs.now ≤ 2 ^ 23 }
+    ensures { result.now ≡ slice_of workers number pairs.now }
+{
+    let from = number as usize * pairs.len() / workers as usize;
+    let to = (number as usize + 1) * pairs.len() / workers as usize;
+    &pairs[from..to]
+}
+
+// Adds the pairs in order, and answers whether all are added.
+fn add_pairs(shared: &Shared, seat: &mut Seat, pairs: &[(Key, Value)]) -> bool
+    requires adding { IsAdding shared.now [] seat.old }
+    requires few { length pairs.now ≤ shared.now.plan.changes }
+    ensures worked { HasWorked shared.now pairs.now (not result) seat.new }
+    ensures stays { Stays seat.old seat.new }
+{
+    for i in 0..pairs.len() {
+        let (key, value) = pairs[i];
+        if !add_pair(shared, seat, key, value) {
+            return false;
+        }
+    }
+    true
+}
+
+// Adds the pair, and answers whether it is added. Each further try has a change of another caller to the
+// key's value.
+fn add_pair(shared: &Shared, seat: &mut Seat, key: Key, value: Value) -> bool
+    requires adding { (added : Flows) × IsAdding shared.now added seat.old × (length added < shared.now.plan.changes) }
+    ensures added { (added : Flows) → IsAdding shared.now added seat.old → HasAddedOne shared.now added (key, value) result seat.new }
+    ensures stays { Stays seat.old seat.new }
+{
+    let mut there = find(shared, seat, words_of_key(key));
+    'tries: loop {
+        match try_pair(shared, seat, key, value, there) {
+            Try::Added => return true,
+            Try::Again { there: found } => there = found,
+            Try::Full => return false,
+        }
+    }
+}
+
+// The key as the table has it.
+fn words_of_key(key: Key) -> KeyWords
+    ensures { result ≡ key_words key }
+{
+    KeyWords {
+        k0: key.k0,
+        k1: key.k1,
+    }
+}
+
+// One call for the pair, where this is what the seat knows of the key's value.
+fn try_pair(
+    shared: &Shared,
+    seat: &mut Seat,
+    key: Key,
+    value: Value,
+    there: Option<ValWords>,
+) -> Try
+    requires trying { (added : Flows) × IsTrying shared.now added (key_words key) there seat.old × (length added < shared.now.plan.changes) }
+    ensures tried { (added : Flows) → IsTrying shared.now added (key_words key) there seat.old
+        → HasTried shared.now added (key, value) result seat.old seat.new }
+    ensures stays { Stays seat.old seat.new }
+{
+    match there {
+        None => try_insert(shared, seat, key, value),
+        Some(old) => try_replace(shared, seat, key, value, old),
+    }
+}
+
+// Inserts the pair, where the key isn't there.
+fn try_insert(shared: &Shared, seat: &mut Seat, key: Key, value: Value) -> Try
+    requires trying { (added : Flows) × IsTrying shared.now added (key_words key) None seat.old × (length added < shared.now.plan.changes) }
+    ensures tried { (added : Flows) → IsTrying shared.now added (key_words key) None seat.old
+        → HasTried shared.now added (key, value) result seat.old seat.new }
+    ensures stays { Stays seat.old seat.new }
+{
+    match insert(shared, seat, words_of_key(key), value.words()) {
+        Insert::Done => Try::Added,
+        Insert::Present(there) => Try::Again { there: Some(there) },
+        Insert::Full { .. } => Try::Full,
+    }
+}
+
+// Replaces the value that the key has by that with the pair's merged into it.
+fn try_replace(shared: &Shared, seat: &mut Seat, key: Key, value: Value, old: ValWords) -> Try
+    requires trying { (added : Flows) × IsTrying shared.now added (key_words key) (Some old) seat.old × (length added < shared.now.plan.changes) }
+    ensures tried { (added : Flows) → IsTrying shared.now added (key_words key) (Some old) seat.old
+        → HasTried shared.now added (key, value) result seat.old seat.new }
+    ensures stays { Stays seat.old seat.new }
+{
+    let merged = merge(Value::of_words(old), value);
+    match replace(shared, seat, words_of_key(key), old, merged.words()) {
+        Replace::Yes => Try::Added,
+        Replace::Found(there) => Try::Again { there: Some(there) },
+        Replace::Absent => Try::Again { there: None },
+        Replace::Full { .. } => Try::Full,
+    }
+}
