@@ -1,17 +1,18 @@
 -- What is gathered of datagrams grows record by record, datagram by datagram and file by file.
 use Rattle.std.specs.Prelude.{slice_get}
-use Rattle.std.specs.List.{flat_map}
-use Rattle.std.proofs.Common.{◌≡◌, ◌∙◌, ℕ, ◌+◌, Some, List, [], ◌∷◌, ◌++◌, map, length, take, refl, sym, ap, arith}
+use Rattle.std.specs.List.{AllByRecursion, flat_map}
+use Rattle.std.proofs.Common.{◌≡◌, ◌∙◌, ℕ, ◌+◌, ◌*◌, ◌^◌, ◌≤◌, Some, List, [], ◌∷◌, ◌++◌, map, length, take, refl, sym, ap, arith}
 use Rattle.std.proofs.lemmas.List.{map-append, append-nil, length-append, length-map, take_all}
 use Rattle.std.proofs.lemmas.Grind.{flat_map-append}
 use Rattle.flow_fold.specs.Flows.{Flows}
 use Rattle.flow_fold.specs.Pair.{pairs_of, record_key, record_value}
-use Rattle.netflow_five.specs.Datagram.{records_of, count_of}
-use Rattle.netflow_five.specs.File.{all_records}
+use Rattle.netflow_five.specs.Datagram.{IsDatagram, records_of, count_of}
+use Rattle.netflow_five.specs.File.{all_records, joined}
 use Rattle.netflow_five.specs.declared.record.FlowRecord.{FlowRecord}
 use Rattle.netflow_five.proofs.Parts.{length-records_of}
 use Rattle.flow_tally.proofs.Lists.{take_get}
 use Rattle.flow_tally.specs.Gathered.{HasGathered, Adds}
+use Rattle.flow_tally.specs.Reading.{IsGatheredOf}
 use Rattle.flow_tally.specs.declared.gathered.Gathered.{Gathered}
 
 pub pairs_more : (d : List ℕ) (i : ℕ) (r : FlowRecord) → slice_get (records_of d) i ≡ Some r
@@ -50,3 +51,27 @@ gathered_more ds es old new had adds = record {
   pairs = adds.pairs ∙ ap (λ (z : Flows). z ++ pairs_of (all_records es)) had.pairs ∙ pairs_joined ds es;
   datagrams = omega (arith, had.datagrams, adds.datagrams, length-append ds es);
 }
+
+-- a datagram has 48 bytes for each record, and so has a file
+records_fit : (ds : List (List ℕ)) → AllByRecursion IsDatagram ds → 48 * length (flat_map records_of ds) ≤ length (joined ds)
+records_fit [] each = omega arith
+records_fit (d ∷ ds) each =
+    let size = each.0.size in omega (
+      arith,
+      length-append (records_of d) (flat_map records_of ds),
+      length-append d (joined ds),
+      length-records_of d,
+      records_fit ds each.1,
+    )
+
+-- what was gathered of files within the limit on bytes are fewer pairs than 2^23
+pub few_gathered : {contents ds : List (List ℕ)} {gathered : Gathered} → IsGatheredOf contents ds gathered → length gathered.pairs.items ≤ 2 ^ 23
+unfolding all_records
+few_gathered {contents} {ds} {gathered} is =
+    let within = is.good.within in omega (
+      arith,
+      ap length is.all.pairs,
+      length-pairs_of (all_records ds),
+      records_fit ds is.file.each,
+      ap length is.file.whole,
+    )

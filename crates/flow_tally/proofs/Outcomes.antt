@@ -11,18 +11,19 @@ use Rattle.flow_tally.specs.declared.status.Status.{Status}
 use Rattle.flow_tally.specs.declared.status.Status.TheVariants.{Done, Usage, OpenFault, ReadFault, WriteFault, BadDatagram, TooManyFlows, InputTooLarge, BadScript, NoMemory, PlanTooLarge}
 
 -- a tally that ended before its output may end for want of memory as well
-no_memory_of : (tally : Tally) (feed : FeedShown) (out : OutShown) (status : Status) → HasNumbers status → TallySays tally feed out status → TallySays tally feed out NoMemory
-no_memory_of tally feed out Done before says = absurd before
-no_memory_of tally feed out Usage before says = absurd before
-no_memory_of tally feed out (OpenFault file) before says = (tt, says.1)
-no_memory_of tally feed out (ReadFault file) before says = (tt, says.1)
-no_memory_of tally feed out (WriteFault written) before says = absurd before
-no_memory_of tally feed out (BadDatagram file offset cause) before says = (tt, says.1)
-no_memory_of tally feed out (TooManyFlows limit) before says = (tt, says.1)
-no_memory_of tally feed out (InputTooLarge file) before says = (tt, says.1)
-no_memory_of tally feed out NoMemory before says = absurd before
-no_memory_of tally feed out (BadScript fault) before says = (tt, says.1)
-no_memory_of tally feed out (PlanTooLarge nodes) before says = (tt, says.1)
+no_memory_of : (tally : Tally) (feed : FeedShown) (out : OutShown) (closed : Option ClosedData) (status : Status) → HasNumbers status → TallySays tally feed out closed status
+    → TallySays tally feed out closed NoMemory
+no_memory_of tally feed out closed Done before says = absurd before
+no_memory_of tally feed out closed Usage before says = absurd before
+no_memory_of tally feed out closed (OpenFault file) before says = (tt, says.1, says.2)
+no_memory_of tally feed out closed (ReadFault file) before says = (tt, says.1, says.2)
+no_memory_of tally feed out closed (WriteFault written) before says = absurd before
+no_memory_of tally feed out closed (BadDatagram file offset cause) before says = (tt, says.1, says.2)
+no_memory_of tally feed out closed (TooManyFlows limit) before says = (tt, says.1, says.2)
+no_memory_of tally feed out closed (InputTooLarge file) before says = (tt, says.1, says.2)
+no_memory_of tally feed out closed NoMemory before says = absurd before
+no_memory_of tally feed out closed (BadScript fault) before says = (tt, says.1, says.2)
+no_memory_of tally feed out closed (PlanTooLarge nodes) before says = (tt, says.1, says.2)
 
 none_of : (out : OutShown) (status : Status) → HasNumbers status → NothingSays out status → NothingSays out NoMemory
 none_of out Done before says = absurd before
@@ -40,7 +41,7 @@ none_of out (PlanTooLarge nodes) before says = absurd says
 memory_of : (asked : Option Command) (feed : FeedShown) (out : OutShown) (closed : Option ClosedData) (status : Status) → HasNumbers status → Says asked feed out closed status
     → Says asked feed out closed NoMemory
 memory_of None feed out closed status before says = (none_of out status before says.0, says.1)
-memory_of (Some (OfTally tally)) feed out closed status before says = (no_memory_of tally feed out status before says.0, says.1)
+memory_of (Some (OfTally tally)) feed out closed status before says = no_memory_of tally feed out closed status before says
 memory_of (Some (OfDrive drive)) feed out closed status before says = no_memory_of_drive drive feed out closed status before says
 
 -- what holds of a status holds of it as it is told, with the same object

@@ -15,6 +15,7 @@ use Rattle.flow_tally.specs.declared.answer.Answer.{Answer}
 use Rattle.flow_tally.specs.declared.status.Status.{Status}
 use Rattle.flow_tally.specs.declared.status.Status.TheVariants.{Done, Usage, OpenFault, ReadFault, WriteFault, BadDatagram, TooManyFlows, InputTooLarge, NoMemory, PlanTooLarge}
 use Rattle.step_rules.specs.Closing.{ClosedData}
+use Rattle.tally_core.specs.Adding.{IsTallied, plan_of_tally}
 
 -- the nodes that a table for the tally has: a share of 2F + 4W + 1 for each of W workers, and one for each bucket
 abbrev pub nodes_of : Tally → ℕ
@@ -35,17 +36,28 @@ pub record IsTally (contents ds : List (List ℕ)) (flows : Flows) : Type 0 wher
 abbrev pub totals_of : List (List ℕ) → Totals
 totals_of ds = record { records = length (all_records ds); datagrams = length ds }
 
--- what the answer of a tally says of its files, or why there is none
-abbrev pub GivesText : List (List ℕ) → List (List ℕ) → ℕ → Result Answer Status → Type 0
-GivesText contents ds limit (Ok answer) = (flows : Flows) × IsTally contents ds flows × (length flows ≤ limit) × (answer.text.items ≡ report_text flows (totals_of ds))
-GivesText contents ds limit (Err (TooManyFlows most)) = (flows : Flows) × IsTally contents ds flows × (most ≡ limit) × (limit < length flows)
-GivesText contents ds limit (Err NoMemory) = Unit {0}
-GivesText contents ds limit (Err _) = ⊥
+-- the keys and values of all records were added up to these flows on the closed object
+abbrev pub IsAddedUp : Tally → List (List ℕ) → Flows → ClosedData → Type 0
+IsAddedUp tally ds flows closed =
+    let pairs = pairs_of (all_records ds) in IsTallied (plan_of_tally pairs tally.workers tally.flows tally.buckets) pairs flows closed
+
+-- what the answer of a tally says of its files and of the object on which their records were added up, or why there is none
+abbrev pub GivesText : Tally → List (List ℕ) → List (List ℕ) → Result Answer Status → Type 0
+GivesText tally contents ds (Ok answer) = (closed : ClosedData) × (flows : Flows) × (answer.closed ≡ Some closed) × IsTally contents ds flows × (length flows ≤ tally.flows)
+    × IsAddedUp tally ds flows closed × (answer.text.items ≡ report_text flows (totals_of ds))
+GivesText tally contents ds (Err (TooManyFlows most)) = (flows : Flows) × IsTally contents ds flows × (most ≡ tally.flows) × (tally.flows < length flows)
+GivesText tally contents ds (Err NoMemory) = Unit {0}
+GivesText tally contents ds (Err _) = ⊥
 
 -- the text is the report of the files, which have no more flows than the tally may have
 abbrev pub IsReport : Tally → Option Names → List ℕ → Type 0
 IsReport tally names text = (contents : List (List ℕ)) × (ds : List (List ℕ)) × (flows : Flows)
     × AreContents names tally.files contents × IsTally contents ds flows × (length flows ≤ tally.flows) × (text ≡ report_text flows (totals_of ds))
+
+-- and it is that of the flows that the records were added up to on this closed object
+abbrev pub IsReportOn : Tally → Option Names → ClosedData → List ℕ → Type 0
+IsReportOn tally names closed text = (contents : List (List ℕ)) × (ds : List (List ℕ)) × (flows : Flows)
+    × AreContents names tally.files contents × IsTally contents ds flows × (length flows ≤ tally.flows) × IsAddedUp tally ds flows closed × (text ≡ report_text flows (totals_of ds))
 
 -- the files have more flows than the tally may have
 abbrev pub HasTooManyFlows : Tally → Option Names → Type 0
@@ -59,15 +71,16 @@ Refuses tally feed (TooManyFlows limit) = (nodes_of tally ≤ most_nodes) × (li
 Refuses tally feed NoMemory = Unit {0}
 Refuses tally feed status = (nodes_of tally ≤ most_nodes) × RefusesFiles tally.files feed status
 
--- all files were read, and the text is their report
-abbrev pub Reports : Tally → FeedShown → List ℕ → Type 0
-Reports tally feed text = (nodes_of tally ≤ most_nodes) × IsReadOut (length tally.files) feed × IsReport tally feed.names text
+-- all files were read, and the text is their report, by this closed object
+abbrev pub Reports : Tally → FeedShown → Option ClosedData → List ℕ → Type 0
+Reports tally feed closed text = (nodes_of tally ≤ most_nodes) × IsReadOut (length tally.files) feed
+    × (object : ClosedData) × (closed ≡ Some object) × IsReportOn tally feed.names object text
 
--- what a status says of a run of a tally
-abbrev pub TallySays : Tally → FeedShown → OutShown → Status → Type 0
-TallySays tally feed out Done = (text : List ℕ) × Reports tally feed text × TookAll text out
-TallySays tally feed out (WriteFault written) = (text : List ℕ) × Reports tally feed text × TookFront text written out
-TallySays tally feed out status = Refuses tally feed status × IsUntouched out
+-- what a status says of a run of a tally. The object on which the records were added up is given where there is an output, whole or in part
+abbrev pub TallySays : Tally → FeedShown → OutShown → Option ClosedData → Status → Type 0
+TallySays tally feed out closed Done = (text : List ℕ) × Reports tally feed closed text × TookAll text out
+TallySays tally feed out closed (WriteFault written) = (text : List ℕ) × Reports tally feed closed text × TookFront text written out
+TallySays tally feed out closed status = Refuses tally feed status × IsUntouched out × (closed ≡ None)
 
 -- what a status says of a run whose words fit no command
 abbrev pub NothingSays : OutShown → Status → Type 0
@@ -75,10 +88,10 @@ NothingSays out Usage = IsUntouched out
 NothingSays out NoMemory = IsUntouched out
 NothingSays out _ = ⊥
 
--- what a status says of a run with these words. A tally has no shared object yet
+-- what a status says of a run with these words
 abbrev pub Says : Option Command → FeedShown → OutShown → Option ClosedData → Status → Type 0
 Says None feed out closed status = NothingSays out status × (closed ≡ None)
-Says (Some (OfTally tally)) feed out closed status = TallySays tally feed out status × (closed ≡ None)
+Says (Some (OfTally tally)) feed out closed status = TallySays tally feed out closed status
 Says (Some (OfDrive drive)) feed out closed status = DriveSays drive feed out closed status
 
 -- what the files under these names determine of a tally
@@ -97,10 +110,10 @@ Determines None names _ = ⊥
 Determines (Some (OfTally tally)) names status = DeterminesTally tally names status
 Determines (Some (OfDrive drive)) names status = DeterminesDrive drive names status
 
--- the text is the output that the words ask for, with the files under these names, and of a drive the one of this object
+-- the text is the output that the words ask for, with the files under these names, by this closed object
 abbrev pub IsOutput : Option Command → Names → Option ClosedData → List ℕ → Type 0
 IsOutput None names closed text = ⊥
-IsOutput (Some (OfTally tally)) names closed text = IsReport tally (Some names) text
+IsOutput (Some (OfTally tally)) names closed text = (object : ClosedData) × (closed ≡ Some object) × IsReportOn tally (Some names) object text
 IsOutput (Some (OfDrive drive)) names closed text = (object : ClosedData) × (closed ≡ Some object) × IsDriven drive (Some names) object text
 
 -- the words ask for a tally, and the text is the report of its files under these names

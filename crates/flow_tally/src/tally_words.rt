@@ -15,7 +15,10 @@ pub struct TallyWords {
     pub buckets: u32,
     /// The names of the files, in the order in which they are read.
     pub files: Vec<String>,
+    ghost some_workers: { 1 ≤ workers },
     ghost few_workers: { workers ≤ 64 },
+    ghost some_flows: { 1 ≤ flows },
     ghost few_flows: { flows ≤ 1048576 },
+    ghost some_buckets: { 1 ≤ buckets },
     ghost few_buckets: { buckets ≤ 1048576 },
 }

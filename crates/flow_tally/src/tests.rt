@@ -2,6 +2,7 @@
 
 mod devices;
 mod scripts;
+mod workers;
 
 use crate::status::Status;
 use crate::top::run;
@@ -259,25 +260,6 @@ fn reports(rt: HostRuntime) -> Result<(), Fail> {
         "192.168.1.10 198.51.100.7 0 2048 1 0 3 5 420 3550000 3554000\n\
          192.168.1.10 203.0.113.5 49152 443 6 0 3 25 18230 3541200 3555300\n\
          flows 2 packets 30 octets 18650 records 2 datagrams 1\n",
-    )
-}
-
-#[test]
-fn many_flows(rt: HostRuntime) -> Result<(), Fail> {
-    let mut lines = String::new(rt.alloc());
-    for source in 0..300u32 {
-        let (high, low) = (source / 256, source % 256);
-        writeln!(
-            lines,
-            "10.0.{high}.{low} 10.0.0.2 1234 80 6 0 1 3 120 1000 2000"
-        )?;
-    }
-    lines.push_str("flows 300 packets 900 octets 36000 records 900 datagrams 30\n")?;
-    done(
-        &rt,
-        "tally --buckets 1 --flows 300 a",
-        &[Part::Sources],
-        lines.as_str(),
     )
 }
 

@@ -36,7 +36,7 @@ fn answer<R: Threads + Sync, F: Feed, O: Sink, G: Gate>(
     ensures untouched { LeavesFeed result.status → feed.new ≡ feed.old }
 {
     match read_words(alloc, words) {
-        Asked::Tally(words) => tally(alloc, &words, feed, out),
+        Asked::Tally(words) => tally(rt, alloc, &words, feed, out, gate),
         Asked::Drive(words) => drive(rt, alloc, &words, feed, out, gate),
         Asked::Usage => Ended::refused(Status::Usage),
         Asked::NoMemory => Ended::refused(Status::NoMemory),

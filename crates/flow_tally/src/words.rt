@@ -100,9 +100,9 @@ fn tally_with(
     buckets: Option<u32>,
     names: Option<&[&str]>,
 ) -> Asked
-    requires workers { ForSome workers (λ n. n ≤ 64) }
-    requires flows { ForSome flows (λ n. n ≤ 1048576) }
-    requires buckets { ForSome buckets (λ n. n ≤ 1048576) }
+    requires workers { ForSome workers (λ n. (1 ≤ n) × (n ≤ 64)) }
+    requires flows { ForSome flows (λ n. (1 ≤ n) × (n ≤ 1048576)) }
+    requires buckets { ForSome buckets (λ n. (1 ≤ n) × (n ≤ 1048576)) }
     ensures { Gives result (tally_of workers flows buckets (option_map (λ s. map (λ v. v.now) s.now) names.entry)) }
 {
     let Some(workers) = workers else {

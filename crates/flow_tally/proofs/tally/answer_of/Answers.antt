@@ -1,25 +1,27 @@
-use Rattle.std.proofs.Common.{◌≡◌, ◌∙◌, ◌≤◌, length, ap, ap₂, sym, subst, arith, rules}
-use Rattle.std.specs.BTreeMap.{get}
-use Rattle.flow_fold.specs.Flows.{Flows, value_in}
-use Rattle.flow_fold.specs.Fold.{IsFold}
-use Rattle.flow_fold.specs.Key.{key_cmp}
+use Rattle.std.proofs.Common.{◌≡◌, ◌∙◌, ◌≤◌, ◌^◌, length, ap, ap₂, refl, sym, subst, arith}
+use Rattle.flow_fold.specs.Flows.{Flows}
 use Rattle.flow_fold.specs.Pair.{pairs_of}
-use Rattle.flow_fold.proofs.Folds.{fold_same}
 use Rattle.flow_report.specs.Text.{report_text}
 use Rattle.flow_report.specs.declared.totals.Totals.{Totals}
 use Rattle.netflow_five.specs.File.{all_records}
 use Rattle.flow_tally.specs.Outcome.{totals_of}
-use Rattle.flow_tally.proofs.Gathering.{length-pairs_of}
+use Rattle.flow_tally.proofs.Gathering.{few_gathered, length-pairs_of}
 use Rattle.flow_tally.proofs.tally.answer_of.Goals as goal
+use Rattle.tally_core.specs.Adding.{IsTallied, plan_of_tally}
 
-pub returns-in-Ok-report-clause-report : goal.returns-in-Ok-report-clause-report
-returns-in-Ok-report-clause-report c = λ contents ds is.
-    let flows = c.in-Ok-flows_of.flows in
-    let total : IsFold (pairs_of (all_records ds)) (get key_cmp c.in-Ok.flows) =
-    subst (λ (z : Flows). IsFold z (get key_cmp c.in-Ok.flows)) (c.deref.ensures.value ∙ is.all.pairs) c.in-Ok.ensures.folds in
-    let fold : IsFold (pairs_of (all_records ds)) (value_in flows) = fold_same _ _ _ (λ key. sym (c.in-Ok-flows_of.ensures.values key)) total in
-    let few : length flows ≤ c.args.limit = search rules in
-    let records : c.len-2.result ≡ length (all_records ds) = omega (arith, c.len-2.ensures, ap length is.all.pairs, length-pairs_of (all_records ds)) in
+pub returns-in-Ok-report : goal.returns-in-Ok-report
+returns-in-Ok-report g c = λ contents ds is.
+    let flows = c.in-Ok.tallied.flows in
+    let words = c.args.words.now in
+    let (made, few) = c.in-Ok.ensures.tallied in
+    let pairs : c.deref.result.now ≡ pairs_of (all_records ds) = c.deref.ensures.value ∙ is.all.pairs in
+    let added = subst (λ (z : Flows). IsTallied (plan_of_tally z words.workers words.flows words.buckets) z flows c.in-Ok.tallied.closed) pairs made in
+    let records : c.len.result ≡ length (all_records ds) = omega (arith, c.len.ensures, ap length is.all.pairs, length-pairs_of (all_records ds)) in
     let text : c.in-Ok-report.text.items ≡ report_text flows (totals_of ds) =
     c.in-Ok-report.ensures.text ∙ ap₂ (λ (z : Flows) (t : Totals). report_text z t) c.as_slice.ensures (λ i. record { records = records i; datagrams = is.all.datagrams i }) in
-    (flows, record { good = is.good; file = is.file; rising = c.in-Ok-flows_of.ensures.rising; fold = fold }, few, text)
+    (c.in-Ok.tallied.closed, flows, refl, record { good = is.good; file = is.file; rising = added.rising; fold = added.fold }, few, added, text)
+
+pub tally-requires-clause-few : goal.tally-requires-clause-few
+tally-requires-clause-few g c _ _ =
+    let (contents, ds, is) = c.requires.past in
+    subst (λ (z : Flows). length z ≤ 2 ^ 23) (sym c.deref.ensures.value) (few_gathered is)
