@@ -1,26 +1,43 @@
 // A plain C++ program that does what `tally FILE` does: the yardstick of its speed.
 //   g++ -O2 -std=c++17 -o tally_map tally.cpp                      std::map throughout
 //   g++ -O2 -std=c++17 -DHASHED -o tally_hashed tally.cpp          std::unordered_map, sorted at the end
+//   g++ -O2 -std=c++17 -pthread -DSHARED -o tally_shared tally.cpp the shared table, by the steps and the plan of `tally`: FILE [WORKERS FLOWS BUCKETS]
 #include <algorithm>
 #include <cinttypes>
 #include <cstdint>
 #include <cstdio>
+#include <cstdlib>
 #include <map>
 #include <string>
 #include <unordered_map>
 #include <vector>
+#ifdef SHARED
+#include "table_seat.h"
+#endif
 
-using Key = std::pair<uint64_t, uint64_t>;
-struct Value {
+struct FlowKey {
+    uint64_t high, low;
+    bool operator<(const FlowKey &other) const { return high != other.high ? high < other.high : low < other.low; }
+    bool operator==(const FlowKey &other) const { return high == other.high && low == other.low; }
+};
+
+struct Sums {
     uint64_t packets, octets;
     uint32_t first, last;
-};
-struct Mix {
-    size_t operator()(const Key &k) const {
-        uint64_t h = (k.first ^ ((k.second << 32) | (k.second >> 32))) * 0x9E3779B97F4A7C15u;
-        return h >> 32;
+
+    void merge(const Sums &other) {
+        packets += other.packets;
+        octets += other.octets;
+        first = std::min(first, other.first);
+        last = std::max(last, other.last);
     }
 };
+
+struct Mix {
+    size_t operator()(const FlowKey &k) const { return (k.high ^ (k.low << 32 | k.low >> 32)) * 0x9E3779B97F4A7C15u >> 32; }
+};
+
+using Flow = std::pair<FlowKey, Sums>;
 
 static uint64_t number(const unsigned char *p, int n) {
     uint64_t v = 0;
@@ -28,52 +45,127 @@ static uint64_t number(const unsigned char *p, int n) {
     return v;
 }
 
-int main(int argc, char **argv) {
-    if (argc != 2) return 2;
-    FILE *file = fopen(argv[1], "rb");
-    if (!file) return 3;
+static std::vector<unsigned char> read_file(const char *name) {
+    FILE *file = fopen(name, "rb");
+    if (!file) exit(3);
     std::vector<unsigned char> bytes;
     size_t filled = 0;
-    for (;;) {
+    for (size_t n = 1; n != 0; filled += n) {
         bytes.resize(filled + (1 << 18));
-        size_t n = fread(bytes.data() + filled, 1, 1 << 18, file);
-        filled += n;
-        if (n == 0) break;
+        n = fread(bytes.data() + filled, 1, 1 << 18, file);
     }
+    fclose(file);
     bytes.resize(filled);
-#ifdef HASHED
-    std::unordered_map<Key, Value, Mix> flows;
-#else
-    std::map<Key, Value> flows;
-#endif
-    uint64_t records = 0, datagrams = 0;
-    for (size_t at = 0; at < bytes.size();) {
+    return bytes;
+}
+
+// Hands each record on, and tells how many datagrams there are.
+template <class Add> uint64_t decode(const std::vector<unsigned char> &bytes, const Add &add) {
+    uint64_t datagrams = 0;
+    for (size_t at = 0; at < bytes.size(); datagrams++) {
         const unsigned char *d = bytes.data() + at;
         size_t left = bytes.size() - at;
-        if (left < 24 || number(d, 2) != 5) return 6;
+        if (left < 24 || number(d, 2) != 5) exit(6);
         unsigned count = number(d + 2, 2);
-        if (count == 0 || count > 30 || left - 24 < 48 * count) return 6;
+        if (count == 0 || count > 30 || left - 24 < 48 * count) exit(6);
         for (unsigned i = 0; i < count; i++) {
             const unsigned char *r = d + 24 + 48 * i;
-            Key key{number(r, 8), number(r + 32, 4) << 32 | number(r + 38, 2) << 16 | number(r + 12, 2)};
-            Value value{number(r + 16, 4), number(r + 20, 4), (uint32_t)number(r + 24, 4), (uint32_t)number(r + 28, 4)};
-            auto [place, is_new] = flows.try_emplace(key, value);
-            if (!is_new) {
-                Value &old = place->second;
-                old.packets += value.packets;
-                old.octets += value.octets;
-                old.first = std::min(old.first, value.first);
-                old.last = std::max(old.last, value.last);
-            }
+            FlowKey key{number(r, 8), number(r + 32, 4) << 32 | number(r + 38, 2) << 16 | number(r + 12, 2)};
+            add(key, Sums{number(r + 16, 4), number(r + 20, 4), (uint32_t)number(r + 24, 4), (uint32_t)number(r + 28, 4)});
         }
-        records += count;
-        datagrams++;
         at += 24 + 48 * count;
     }
-    std::vector<std::pair<Key, Value>> sorted(flows.begin(), flows.end());
+    return datagrams;
+}
+
+[[maybe_unused]] static bool is_before(const Flow &a, const Flow &b) { return a.first < b.first; }
+
+#ifdef SHARED
+static Value words_of(const Sums &sums) { return {sums.packets, sums.octets, uint64_t(sums.first) << 32 | sums.last}; }
+static Sums sums_of(const Value &words) { return {words[0], words[1], uint32_t(words[2] >> 32), uint32_t(words[2])}; }
+
+// Adds the pairs from one place up to another; false where a node is wanting.
+static bool add_part(TableSeat &seat, const std::vector<Flow> &pairs, size_t from, size_t to) {
+    for (size_t i = from; i < to; i++) {
+        Key key{pairs[i].first.high, pairs[i].first.low};
+        for (bool made = false; !made;) {
+            auto found = seat.find(key);
+            Answer answer;
+            if (found) {
+                Sums sums = sums_of(*found);
+                sums.merge(pairs[i].second);
+                answer = seat.replace(key, *found, words_of(sums));
+            } else {
+                answer = seat.insert(key, words_of(pairs[i].second));
+            }
+            if (answer == Answer::full) return false;
+            made = answer == Answer::done;
+        }
+    }
+    return true;
+}
+
+// The pairs of all buckets' chains, sorted.
+static std::vector<Flow> flows_in(Object &object, uint32_t buckets) {
+    std::vector<Flow> flows;
+    for (uint32_t bucket = 0; bucket < buckets; bucket++) {
+        uint64_t next = object.backup(bucket).load() / 2 + 1;
+        while (next != 0) {
+            uint32_t node = next - 1;
+            next = object.node(node, WIDTH).load();
+            if (next == END) break;
+            Value words{object.node(node, 2).load(), object.node(node, 3).load(), object.node(node, 4).load()};
+            flows.push_back({{object.node(node, 0).load(), object.node(node, 1).load()}, sums_of(words)});
+        }
+    }
+    std::sort(flows.begin(), flows.end(), is_before);
+    return flows;
+}
+
+static std::vector<Flow> tally(const std::vector<unsigned char> &bytes, int argc, char **argv, uint64_t &records, uint64_t &datagrams) {
+    std::vector<Flow> pairs;
+    datagrams = decode(bytes, [&](const FlowKey &key, const Sums &sums) { pairs.push_back({key, sums}); });
+    records = pairs.size();
+    uint32_t workers = argc > 2 ? atoi(argv[2]) : 4, most = argc > 3 ? atoi(argv[3]) : 65536, buckets = argc > 4 ? atoi(argv[4]) : 65536;
+    uint32_t share = 2 * most + 4 * workers + 1;
+    Object object(workers, buckets, share, END);
+    std::vector<TableSeat> seats;
+    for (uint32_t w = 0; w < workers; w++) seats.emplace_back(object, workers, buckets, share, w);
+    auto ran = run_threads(workers, [&](uint32_t w) {
+        TableSeat seat = std::move(seats[w]);
+        uint64_t made = add_part(seat, pairs, w * pairs.size() / workers, (w + 1) * pairs.size() / workers);
+        return Ran{made, 0};
+    });
+    if (ran.first.done != workers) exit(7);
+    std::vector<Flow> flows = flows_in(object, buckets);
+    if (flows.size() > most) exit(7);
+    return flows;
+}
+#else
+static std::vector<Flow> tally(const std::vector<unsigned char> &bytes, int, char **, uint64_t &records, uint64_t &datagrams) {
 #ifdef HASHED
-    std::sort(sorted.begin(), sorted.end(), [](auto &a, auto &b) { return a.first < b.first; });
+    std::unordered_map<FlowKey, Sums, Mix> flows;
+#else
+    std::map<FlowKey, Sums> flows;
 #endif
+    records = 0;
+    datagrams = decode(bytes, [&](const FlowKey &key, const Sums &sums) {
+        auto [place, is_new] = flows.try_emplace(key, sums);
+        if (!is_new) place->second.merge(sums);
+        records++;
+    });
+    std::vector<Flow> sorted(flows.begin(), flows.end());
+#ifdef HASHED
+    std::sort(sorted.begin(), sorted.end(), is_before);
+#endif
+    return sorted;
+}
+#endif
+
+int main(int argc, char **argv) {
+    if (argc < 2) return 2;
+    uint64_t records, datagrams;
+    std::vector<Flow> sorted = tally(read_file(argv[1]), argc, argv, records, datagrams);
     std::string out;
     out.reserve(sorted.size() * 128 + 256);
     char line[256];
@@ -81,8 +173,8 @@ int main(int argc, char **argv) {
     for (auto &[k, v] : sorted) {
         auto byte = [](uint64_t x, int i) { return (unsigned)(x >> (8 * i) & 255); };
         int n = snprintf(line, sizeof line, "%u.%u.%u.%u %u.%u.%u.%u %u %u %u %u %u %" PRIu64 " %" PRIu64 " %u %u\n",
-            byte(k.first, 7), byte(k.first, 6), byte(k.first, 5), byte(k.first, 4), byte(k.first, 3), byte(k.first, 2), byte(k.first, 1), byte(k.first, 0),
-            (unsigned)(k.second >> 48), (unsigned)(k.second >> 32 & 65535), byte(k.second, 3), byte(k.second, 2), (unsigned)(k.second & 65535),
+            byte(k.high, 7), byte(k.high, 6), byte(k.high, 5), byte(k.high, 4), byte(k.high, 3), byte(k.high, 2), byte(k.high, 1), byte(k.high, 0),
+            (unsigned)(k.low >> 48), (unsigned)(k.low >> 32 & 65535), byte(k.low, 3), byte(k.low, 2), (unsigned)(k.low & 65535),
             v.packets, v.octets, v.first, v.last);
         out.append(line, n);
         packets += v.packets;
