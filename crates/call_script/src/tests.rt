@@ -1,3 +1,5 @@
+ghost use Rattle.std.specs.Prelude.{◌+◌, ◌<◌, ◌^◌};
+
 use crate::{
     BadScript, Counts, Driven, LineCause, MOST_LINES, RecList, ReplyList, read_script, run_plain,
     write_replies,
@@ -7,7 +9,9 @@ use std::alloc::Global;
 use std::test::Fail;
 
 // What a script prints where its lines are called in its order, and so many nodes are left.
-fn printed(alloc: Global, script: &str, free: u32, live: u32) -> Result<Vec<u8>, Fail> {
+fn printed(alloc: Global, script: &str, free: u32, live: u32) -> Result<Vec<u8>, Fail>
+    requires { free + live < 2 ^ 32 }
+{
     let script = read_script(alloc, script.as_bytes())?;
     let run = run_plain(alloc, &script)?;
     let driven = Driven {
