@@ -160,7 +160,7 @@ def bad_streams(checks: Checks, one: str) -> None:
 
 def drives(checks: Checks) -> None:
     """Scripts, whose callers' calls an order must explain on a plain object."""
-    for callers, lines in ((1, 400), (2, 40), (4, 40), (8, 40), (64, 64)):
+    for callers, lines in ((1, 400), (2, 40), (4, 40), (8, 40), (64, 32)):
         checks.explains(f"{callers} callers", scripts.random_script(callers, callers, lines), 4096, 16)
     checks.explains("few nodes", scripts.random_script(20, 3, 40), 4, 2)
     checks.explains("one node each", scripts.random_script(21, 1, 200), 1, 1)
