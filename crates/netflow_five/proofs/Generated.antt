@@ -3,7 +3,7 @@ use Rattle.std.proofs.Common.{◌≡◌, ◌≢◌, ◌∙◌, ℕ, ◌+◌, ◌
 use Rattle.std.specs.List.{AllByRecursion, flat_map}
 use Rattle.std.proofs.Math.Nat.{mul-suc, suc-mul}
 use Rattle.std.proofs.lemmas.Bool.{cases_eq}
-use Rattle.std.proofs.lemmas.List.{flat_map_more, map-append}
+use Rattle.std.proofs.lemmas.List.{flat_map_more, length-append, map-append}
 use Rattle.netflow_five.specs.Datagram.{IsDatagram}
 use Rattle.netflow_five.specs.Encoding.{header_bytes, record_bytes}
 use Rattle.netflow_five.specs.File.{IsWellFormed, joined}
@@ -78,6 +78,16 @@ datagram_there start i =
     let long : length flows ≡ count_at i = length-mapped (flow_at start) (numbers_from (records_before i) (count_at i)) ∙ length-numbers (records_before i) (count_at i) in
     subst (λ (n : ℕ). IsDatagram (header_bytes (header_at i) n ++ flat_map record_bytes flows)) long
     (written_is_datagram (header_at i) flows (omega arith) (omega arith))
+
+sizes_there : (start m n : ℕ) → length (flat_map (datagram_at start) (numbers_from m n)) ≤ 1464 * n
+sizes_there start m zero = omega arith
+sizes_there start m (suc n) =
+    let there = datagram_there start m in
+    omega (arith, length-append (datagram_at start m) (flat_map (datagram_at start) (numbers_from (suc m) n)), there.size, there.few_records, sizes_there start (suc m) n)
+
+-- datagrams have at most 30 records each
+pub length-generated : (start datagrams : ℕ) → length (generated start datagrams) ≤ 1464 * datagrams
+length-generated start datagrams = sizes_there start 0 datagrams
 
 each_there : (start m n : ℕ) → AllByRecursion IsDatagram (map (datagram_at start) (numbers_from m n))
 each_there start m zero = tt

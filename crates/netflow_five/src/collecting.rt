@@ -1,9 +1,11 @@
-ghost use Rattle.std.specs.Prelude.{◌≡◌, ◌+◌, ◌<◌, ◌≤◌, ◌^◌, List, ℕ, length, IfOk};
+ghost use Rattle.std.specs.Prelude.{◌≡◌, ◌+◌, ◌<◌, ◌≤◌, ◌^◌, List, ℕ, length, IfOk, IfErr};
+ghost use Rattle.netflow_five.specs.File.{IsFile, IsRefusal, IsWellFormed};
 ghost use Rattle.netflow_five.specs.Next.{ReadTo, StopsAt, CameTo};
 
 use crate::collector::Collector;
 use crate::datagram::decode;
 use crate::malformed::Malformed;
+use crate::refused::Refused;
 use wire_ports::NoMemory;
 
 /// Where the datagrams end that bytes begin with, and why no further one begins there. There is no
@@ -41,4 +43,23 @@ pub(crate) fn collect_front<C: Collector>(
         }
     }
     Ok(Front { at, cause: None })
+}
+
+/// Collects the datagrams of a whole file that stands in memory, one after the other, or tells where
+/// and why it is none. Then nothing is said of what was collected.
+pub fn collect_bytes<C: Collector>(bytes: &[u8], collector: &mut C) -> Result<(), Refused>
+    requires span { C.span collector.old + length bytes.now < 2 ^ 64 }
+    ensures ok { IfOk result (λ _. (ds : List (List ℕ)) × IsFile bytes.now ds × CameTo C.holds collector.old ds collector.new) }
+    ensures err { IfErr result (IsRefusal bytes.now) }
+    ensures only_memory { IsWellFormed bytes.now → IfErr result (λ refused. refused ≡ Refused.NoMemory) }
+    ensures span { IfOk result (λ _. C.span collector.new ≤ C.span collector.old + length bytes.now) }
+{
+    let front = collect_front(bytes, collector)?;
+    match front.cause {
+        None => Ok(()),
+        Some(cause) => Err(Refused::Malformed {
+            offset: front.at,
+            cause,
+        }),
+    }
 }

@@ -1,5 +1,4 @@
 ghost use Rattle.std.specs.Prelude.{◌≡◌, ◌<◌, ◌≤◌, ◌++◌, length, map, IfOk, OnOk};
-ghost use Rattle.std.specs.Int.{w16, w32, to_be_bytes};
 ghost use Rattle.std.specs.List.{flat_map};
 ghost use Rattle.netflow_five.specs.Datagram.{IsDatagram, records_of};
 ghost use Rattle.netflow_five.specs.Encoding.{route_bytes, traffic_bytes, transport_bytes, network_bytes, record_bytes, clock_bytes, exporter_bytes, header_bytes};
@@ -13,112 +12,122 @@ use crate::record::FlowRecord;
 use std::alloc::{AllocError, Global};
 use wire_ports::NoMemory;
 
-fn add_u16(bytes: &mut Vec<u8>, number: u16) -> Result<(), AllocError>
-    ensures { OnOk result (bytes.new.items ≡ bytes.old.items ++ to_be_bytes w16 number) }
-{
-    bytes.extend_from_slice(&number.to_be_bytes())
-}
-
-fn add_u32(bytes: &mut Vec<u8>, number: u32) -> Result<(), AllocError>
-    ensures { OnOk result (bytes.new.items ≡ bytes.old.items ++ to_be_bytes w32 number) }
-{
-    bytes.extend_from_slice(&number.to_be_bytes())
-}
+// A record and a header are encoded in arrays of their own, so that adding one of them looks for room
+// once and not at each field.
 
 #[tactic(auto, unfolding(crate::specs::Encoding::route_bytes))]
-fn add_route(bytes: &mut Vec<u8>, flow: &FlowRecord) -> Result<(), AllocError>
-    ensures added { OnOk result (bytes.new.items ≡ bytes.old.items ++ route_bytes flow.now) }
-    ensures fits { OnOk result (RouteFits flow.now) }
+fn encode_route(flow: FlowRecord) -> [u8; 16]
+    ensures bytes { result ≡ route_bytes flow }
+    ensures fits { RouteFits flow }
 {
-    add_u32(bytes, flow.srcaddr)?;
-    add_u32(bytes, flow.dstaddr)?;
-    add_u32(bytes, flow.nexthop)?;
-    add_u16(bytes, flow.input)?;
-    add_u16(bytes, flow.output)?;
-    Ok(())
+    let mut bytes = [0; 16];
+    bytes[0..4].copy_from_slice(&flow.srcaddr.to_be_bytes());
+    bytes[4..8].copy_from_slice(&flow.dstaddr.to_be_bytes());
+    bytes[8..12].copy_from_slice(&flow.nexthop.to_be_bytes());
+    bytes[12..14].copy_from_slice(&flow.input.to_be_bytes());
+    bytes[14..16].copy_from_slice(&flow.output.to_be_bytes());
+    bytes
 }
 
 #[tactic(auto, unfolding(crate::specs::Encoding::traffic_bytes))]
-fn add_traffic(bytes: &mut Vec<u8>, flow: &FlowRecord) -> Result<(), AllocError>
-    ensures added { OnOk result (bytes.new.items ≡ bytes.old.items ++ traffic_bytes flow.now) }
-    ensures fits { OnOk result (TrafficFits flow.now) }
+fn encode_traffic(flow: FlowRecord) -> [u8; 16]
+    ensures bytes { result ≡ traffic_bytes flow }
+    ensures fits { TrafficFits flow }
 {
-    add_u32(bytes, flow.d_pkts)?;
-    add_u32(bytes, flow.d_octets)?;
-    add_u32(bytes, flow.first)?;
-    add_u32(bytes, flow.last)?;
-    Ok(())
+    let mut bytes = [0; 16];
+    bytes[0..4].copy_from_slice(&flow.d_pkts.to_be_bytes());
+    bytes[4..8].copy_from_slice(&flow.d_octets.to_be_bytes());
+    bytes[8..12].copy_from_slice(&flow.first.to_be_bytes());
+    bytes[12..16].copy_from_slice(&flow.last.to_be_bytes());
+    bytes
 }
 
 #[tactic(auto, unfolding(crate::specs::Encoding::transport_bytes))]
-fn add_transport(bytes: &mut Vec<u8>, flow: &FlowRecord) -> Result<(), AllocError>
-    ensures added { OnOk result (bytes.new.items ≡ bytes.old.items ++ transport_bytes flow.now) }
-    ensures fits { OnOk result (PortsFit flow.now) }
+fn encode_transport(flow: FlowRecord) -> [u8; 8]
+    ensures bytes { result ≡ transport_bytes flow }
+    ensures fits { PortsFit flow }
 {
-    add_u16(bytes, flow.srcport)?;
-    add_u16(bytes, flow.dstport)?;
-    bytes.extend_from_slice(&[flow.pad1, flow.tcp_flags, flow.prot, flow.tos])?;
-    Ok(())
+    let mut bytes = [0, 0, 0, 0, flow.pad1, flow.tcp_flags, flow.prot, flow.tos];
+    bytes[0..2].copy_from_slice(&flow.srcport.to_be_bytes());
+    bytes[2..4].copy_from_slice(&flow.dstport.to_be_bytes());
+    bytes
 }
 
 #[tactic(auto, unfolding(crate::specs::Encoding::network_bytes))]
-fn add_network(bytes: &mut Vec<u8>, flow: &FlowRecord) -> Result<(), AllocError>
-    ensures added { OnOk result (bytes.new.items ≡ bytes.old.items ++ network_bytes flow.now) }
-    ensures fits { OnOk result (NetworkFits flow.now) }
+fn encode_network(flow: FlowRecord) -> [u8; 8]
+    ensures bytes { result ≡ network_bytes flow }
+    ensures fits { NetworkFits flow }
 {
-    add_u16(bytes, flow.src_as)?;
-    add_u16(bytes, flow.dst_as)?;
-    bytes.extend_from_slice(&[flow.src_mask, flow.dst_mask])?;
-    add_u16(bytes, flow.pad2)?;
-    Ok(())
+    let mut bytes = [0, 0, 0, 0, flow.src_mask, flow.dst_mask, 0, 0];
+    bytes[0..2].copy_from_slice(&flow.src_as.to_be_bytes());
+    bytes[2..4].copy_from_slice(&flow.dst_as.to_be_bytes());
+    bytes[6..8].copy_from_slice(&flow.pad2.to_be_bytes());
+    bytes
+}
+
+#[tactic(auto, unfolding(crate::specs::Encoding::record_bytes))]
+fn encode_record(flow: FlowRecord) -> [u8; RECORD]
+    ensures bytes { result ≡ record_bytes flow }
+    ensures read_back { record_of (record_bytes flow) ≡ flow }
+{
+    let mut bytes = [0; RECORD];
+    bytes[0..16].copy_from_slice(&encode_route(flow));
+    bytes[16..32].copy_from_slice(&encode_traffic(flow));
+    bytes[32..40].copy_from_slice(&encode_transport(flow));
+    bytes[40..48].copy_from_slice(&encode_network(flow));
+    bytes
 }
 
 /// A record. Its numbers are in range, so its bytes read back.
-#[tactic(auto, unfolding(crate::specs::Encoding::record_bytes))]
 pub(crate) fn add_record(bytes: &mut Vec<u8>, flow: &FlowRecord) -> Result<(), AllocError>
     ensures added { OnOk result (bytes.new.items ≡ bytes.old.items ++ record_bytes flow.now) }
     ensures read_back { OnOk result (record_of (record_bytes flow.now) ≡ flow.now) }
 {
-    add_route(bytes, flow)?;
-    add_traffic(bytes, flow)?;
-    add_transport(bytes, flow)?;
-    add_network(bytes, flow)?;
-    Ok(())
+    bytes.extend_from_slice(&encode_record(*flow))
 }
 
 #[tactic(auto, unfolding(crate::specs::Encoding::clock_bytes))]
-fn add_clock(bytes: &mut Vec<u8>, header: &Header) -> Result<(), AllocError>
-    ensures added { OnOk result (bytes.new.items ≡ bytes.old.items ++ clock_bytes header.now) }
-    ensures fits { OnOk result (ClockFits header.now) }
+fn encode_clock(header: Header) -> [u8; 12]
+    ensures bytes { result ≡ clock_bytes header }
+    ensures fits { ClockFits header }
 {
-    add_u32(bytes, header.sys_uptime)?;
-    add_u32(bytes, header.unix_secs)?;
-    add_u32(bytes, header.unix_nsecs)?;
-    Ok(())
+    let mut bytes = [0; 12];
+    bytes[0..4].copy_from_slice(&header.sys_uptime.to_be_bytes());
+    bytes[4..8].copy_from_slice(&header.unix_secs.to_be_bytes());
+    bytes[8..12].copy_from_slice(&header.unix_nsecs.to_be_bytes());
+    bytes
 }
 
 #[tactic(auto, unfolding(crate::specs::Encoding::exporter_bytes))]
-fn add_exporter(bytes: &mut Vec<u8>, header: &Header) -> Result<(), AllocError>
-    ensures added { OnOk result (bytes.new.items ≡ bytes.old.items ++ exporter_bytes header.now) }
-    ensures fits { OnOk result (ExporterFits header.now) }
+fn encode_exporter(header: Header) -> [u8; 8]
+    ensures bytes { result ≡ exporter_bytes header }
+    ensures fits { ExporterFits header }
 {
-    add_u32(bytes, header.flow_sequence)?;
-    bytes.extend_from_slice(&[header.engine_type, header.engine_id])?;
-    add_u16(bytes, header.sampling)?;
-    Ok(())
+    let mut bytes = [0, 0, 0, 0, header.engine_type, header.engine_id, 0, 0];
+    bytes[0..4].copy_from_slice(&header.flow_sequence.to_be_bytes());
+    bytes[6..8].copy_from_slice(&header.sampling.to_be_bytes());
+    bytes
+}
+
+#[tactic(auto, unfolding(crate::specs::Encoding::header_bytes))]
+fn encode_header(header: Header, count: u16) -> [u8; HEADER]
+    ensures bytes { result ≡ header_bytes header count }
+    ensures read_back { header_of (header_bytes header count) ≡ header }
+{
+    let mut bytes = [0; HEADER];
+    bytes[0..2].copy_from_slice(&VERSION.to_be_bytes());
+    bytes[2..4].copy_from_slice(&count.to_be_bytes());
+    bytes[4..16].copy_from_slice(&encode_clock(header));
+    bytes[16..24].copy_from_slice(&encode_exporter(header));
+    bytes
 }
 
 /// The header of a datagram with so many records. Its numbers are in range, so its bytes read back.
-#[tactic(auto, unfolding(crate::specs::Encoding::header_bytes))]
 pub(crate) fn add_header(bytes: &mut Vec<u8>, header: &Header, count: u16) -> Result<(), AllocError>
     ensures added { OnOk result (bytes.new.items ≡ bytes.old.items ++ header_bytes header.now count) }
     ensures read_back { OnOk result (header_of (header_bytes header.now count) ≡ header.now) }
 {
-    add_u16(bytes, VERSION)?;
-    add_u16(bytes, count)?;
-    add_clock(bytes, header)?;
-    add_exporter(bytes, header)?;
-    Ok(())
+    bytes.extend_from_slice(&encode_header(*header, count))
 }
 
 /// Records one after the other.

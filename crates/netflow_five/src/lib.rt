@@ -17,6 +17,7 @@ mod streaming;
 #[cfg(test)]
 mod tests;
 
+pub use collecting::collect_bytes;
 pub use collector::Collector;
 pub use datagram::{Datagram, decode};
 pub use encoding::encode;

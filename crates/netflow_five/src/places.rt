@@ -2,7 +2,7 @@ ghost use Rattle.std.specs.Prelude.{◌≡◌, ◌<◌, ◌↔◌, [], List, ℕ
 ghost use Rattle.netflow_five.specs.File.{IsFile, IsWellFormed, joined, places, IsRefusal};
 ghost use Rattle.netflow_five.specs.declared.refused.Refused.TheVariants.{NoMemory};
 
-use crate::collecting::collect_front;
+use crate::collecting::collect_bytes;
 use crate::collector::Collector;
 use crate::datagram::Datagram;
 use crate::refused::Refused;
@@ -84,12 +84,6 @@ pub fn decode_all(alloc: Global, bytes: &[u8]) -> Result<Places, Refused>
         items: Vec::new(alloc),
         end: 0,
     };
-    let front = collect_front(bytes, &mut noted)?;
-    match front.cause {
-        None => Ok(Places { items: noted.items }),
-        Some(cause) => Err(Refused::Malformed {
-            offset: front.at,
-            cause,
-        }),
-    }
+    collect_bytes(bytes, &mut noted)?;
+    Ok(Places { items: noted.items })
 }

@@ -1,8 +1,15 @@
+ghost use Rattle.std.specs.Prelude.{◌≡◌, ◌+◌, length};
+ghost use Rattle.netflow_five.specs.File.{joined};
+
+mod generated;
+
 use crate::{
-    Datagram, FlowRecord, Header, Malformed, Refused, decode, decode_all, encode, generate,
+    Collector, Datagram, FlowRecord, Header, Malformed, Refused, collect_bytes, decode, decode_all,
+    encode,
 };
 use std::alloc::{AllocError, Global};
 use std::test::Fail;
+use wire_ports::NoMemory;
 
 // A datagram of one record: 12 packets and 3,400 octets over TCP from 10.0.0.1 port 1234 to 10.0.0.2
 // port 80.
@@ -168,6 +175,33 @@ fn finds_the_places_of_datagrams(rt: HostRuntime) -> Result<(), Fail> {
     Ok(())
 }
 
+// How many bytes came in.
+#[derive(Drop)]
+struct Came {
+    bytes: usize,
+}
+
+impl Collector for Came {
+    ghost holds = { λ came ds. came.bytes ≡ length (joined ds) };
+
+    ghost span = { λ came. came.bytes };
+
+    fn add(&mut self, datagram: &Datagram<'_>) -> Result<(), NoMemory> {
+        self.bytes += datagram.size();
+        Ok(())
+    }
+}
+
+#[test]
+fn collects_what_stands_in_memory(rt: HostRuntime) -> Result<(), Fail> {
+    let mut bytes = Vec::from_slice(rt.alloc(), &TWO)?;
+    bytes.extend_from_slice(&ONE)?;
+    let mut came = Came { bytes: 0 };
+    collect_bytes(&bytes, &mut came)?;
+    assert_eq!(rt; came.bytes, 192);
+    Ok(())
+}
+
 #[test]
 fn reads_a_header_and_records(rt: HostRuntime) -> Result<(), Fail> {
     let alloc = rt.alloc();
@@ -210,29 +244,6 @@ fn writes_what_it_reads(rt: HostRuntime) -> Result<(), Fail> {
         encode(alloc, &datagram.header(), &flows)?.as_slice(),
         bytes.as_slice()
     );
-    Ok(())
-}
-
-// The first datagram from the start 0.
-const GENERATED: [u8; 72] = [
-    0x00, 0x05, 0x00, 0x01, 0x01, 0x31, 0x2d, 0x00, 0x65, 0x53, 0xf1, 0x00, 0x00, 0x00, 0x00, 0x00,
-    0x00, 0x00, 0x00, 0x00, 0x00, 0x00, 0x00, 0x00, 0x0a, 0x00, 0x01, 0x4f, 0xc0, 0x00, 0x02, 0x4f,
-    0x00, 0x00, 0x00, 0x00, 0x00, 0x04, 0x00, 0x00, 0x00, 0x00, 0x00, 0x01, 0x00, 0x00, 0x00, 0x64,
-    0x00, 0x14, 0x05, 0x7b, 0x00, 0x14, 0x05, 0xf9, 0x05, 0x4f, 0x01, 0xbb, 0x00, 0x18, 0x11, 0x00,
-    0x00, 0x00, 0x00, 0x00, 0x00, 0x00, 0x00, 0x00,
-];
-
-#[test]
-fn generates_datagrams(rt: HostRuntime) -> Result<(), Fail> {
-    let alloc = rt.alloc();
-    assert!(rt; generate(alloc, u64::MAX, 0)?.is_empty());
-    assert_eq!(rt; generate(alloc, 0, 1)?.as_slice(), GENERATED.as_slice());
-    // The datagram after the first round has one record again, after 465 others.
-    let bytes = generate(alloc, 7, 31)?;
-    assert_eq!(rt; bytes.len(), 31 * 24 + 466 * 48);
-    let last = decode(&bytes, 30 * 24 + 465 * 48)?;
-    assert_eq!(rt; last.count(), 1);
-    assert_eq!(rt; last.header().flow_sequence, 465);
     Ok(())
 }
 
