@@ -71,7 +71,10 @@ totals_text totals = words_then line_feed (named (codes "records") totals.record
 unfoldable pub last_line : ℕ → ℕ → ℕ → Totals → List ℕ
 last_line flows packets octets totals = sums_text flows packets octets ++ totals_text totals
 
+-- the last line of a report of these flows
+abbrev pub last_line_of : Flows → Totals → List ℕ
+last_line_of flows totals = last_line (length flows) (packets_of flows) (octets_of flows) totals
+
 -- a line for each flow, and the last line
 unfoldable pub report_text : Flows → Totals → List ℕ
-report_text flows totals = flat_map flow_line flows
-    ++ last_line (length flows) (packets_of flows) (octets_of flows) totals
+report_text flows totals = flat_map flow_line flows ++ last_line_of flows totals

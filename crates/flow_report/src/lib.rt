@@ -15,5 +15,5 @@ mod totals;
 
 pub use read_back::{ReadBack, read_report};
 pub use report_end::ReportEnd;
-pub use text::report;
+pub use text::{report, report_last_line};
 pub use totals::Totals;

@@ -1,6 +1,7 @@
-ghost use Rattle.std.specs.Prelude.{◌≡◌, ◌+◌, ◌*◌, ◌<◌, ◌≤◌, ◌^◌};
+ghost use Rattle.std.specs.Prelude.{◌≡◌, ◌+◌, ◌*◌, ◌<◌, ◌≤◌, ◌^◌, length};
+ghost use Rattle.flow_report.specs.Sums.{packets_of, octets_of};
 
-use flow_fold::Value;
+use flow_fold::{Key, Value};
 
 /// What the last line says of the flow lines: how many there are, and their packets and octets
 /// together.
@@ -40,4 +41,17 @@ impl Sums {
             octets: self.octets + u128::from(value.octets),
         }
     }
+}
+
+/// Those of all these flows.
+pub(crate) fn sums_of(flows: &[(Key, Value)]) -> Sums
+    ensures flows { result.flows ≡ length flows.now }
+    ensures packets { result.packets ≡ packets_of flows.now }
+    ensures octets { result.octets ≡ octets_of flows.now }
+{
+    let mut sums = Sums::none();
+    for flow in flows {
+        sums = sums.with(flow.1);
+    }
+    sums
 }

@@ -1,4 +1,4 @@
-use crate::{ReportEnd, Totals, read_report, report};
+use crate::{ReportEnd, Totals, read_report, report, report_last_line};
 use flow_fold::{Key, Value};
 use std::test::Fail;
 
@@ -99,6 +99,14 @@ fn writes_reports(rt: HostRuntime) -> Result<(), Fail> {
     assert_eq!(rt; text.as_slice(), TWO_TEXT.as_bytes());
     let text = report(rt.alloc(), &LARGE, &totals(u64::MAX, 0))?;
     assert_eq!(rt; text.as_slice(), LARGE_TEXT.as_bytes());
+    Ok(())
+}
+
+#[test]
+fn writes_the_last_line(rt: HostRuntime) -> Result<(), Fail> {
+    let line = report_last_line(rt.alloc(), &TWO, &totals(2, 1))?;
+    let want = "flows 2 packets 30 octets 18650 records 2 datagrams 1\n";
+    assert_eq!(rt; line.as_slice(), want.as_bytes());
     Ok(())
 }
 

@@ -8,7 +8,4 @@ pub loop-flow-preserved : goal.loop-flow-preserved
 loop-flow-preserved c = record {
   lines = grind (arith, common_steps);
   in_range = All-more IsFlowInRange c.args.flows.now c.loop-flow.flow-index _ c.loop-flow-test.true c.loop-flow.invariant.in_range c.in_ok-add_flow.ensures.in_range;
-  flows = grind (arith, common_steps);
-  packets = grind (arith, common_steps);
-  octets = grind (arith, common_steps);
 }
