@@ -1,5 +1,5 @@
 -- What the end of a call says of its answer.
-use Rattle.std.proofs.Common.{◌≡◌, ◌∙◌, ℕ, ◌+◌, ◌≤◌, Bool, true, false, ◌&&◌, not, is_none, cond, List, [], ◌∷◌, Option, None, Some, refl, sym, ap, arith, ⊎_elim}
+use Rattle.std.proofs.Common.{◌≡◌, ◌∙◌, ℕ, ◌+◌, ◌≤◌, Bool, true, false, ◌&&◌, not, is_none, cond, List, [], ◌∷◌, Option, None, Some, refl, sym, ap, arith}
 use Rattle.std.proofs.lemmas.Bool.{and_parts, and_right, false≢true}
 use Rattle.big_atomic.specs.Turns.{exchanges, scan_loads}
 use Rattle.cache_hash.specs.Asking.{HasEnded, NeverChanges, insert_answer, remove_answer, replace_answer}
@@ -46,21 +46,18 @@ none_is None e = refl
 none_is (Some val) e = absurd (false≢true e)
 
 pub inserted : {key : KeyWords} {val : List ℕ} {before after : SeatData} (told : Told) → HasEnded key (Insert val) told before after → IsInserted key val (insert_answer told) before after
-inserted (Plain None) h = record { change = h.ends; there = h.value; quiet = λ there e. absurd cc; removes = keeps_removes refl h.ends; enough = λ many count free e. absurd cc }
+inserted (Plain None) h = record { change = h.ends; there = h.value; quiet = h.quiet tt; removes = keeps_removes refl h.ends; enough = λ many count free e. absurd cc }
 inserted {key} {val} {before} {after} (Plain (Some there)) h = record {
   change = h.ends;
   there = h.value;
-  quiet = λ other e none.
-      let unscanned : scan_loads h.ends.answered.steps ≡ 0 =
-      ⊎_elim (λ none_loaded. none_loaded) (λ some. absurd (⊎_elim (λ full. false≢true full) (λ tried. omega arith) some.2)) h.ends.scans in
-      let kept = h.ends.kept none unscanned in record { free = kept.free; retired = kept.retired; none_exchanged = none; none_scanned = unscanned };
+  quiet = h.quiet tt;
   removes = keeps_removes refl h.ends;
   enough = λ many count free e. absurd cc;
 }
 inserted {key} {val} {before} {after} (Full needed free) h = record {
   change = h.ends;
   there = let f = h.ends.full needed free refl in none_is (value_at after.view h.ends.answered.stand.place key) f.1.changes;
-  quiet = λ other e. absurd cc;
+  quiet = h.quiet tt;
   removes = keeps_removes refl h.ends;
   enough = λ many count other e.
       let f = h.ends.full needed free refl in

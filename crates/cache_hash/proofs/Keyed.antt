@@ -1,9 +1,9 @@
 -- What a change of a key's pair is as a call, change by change.
-use Rattle.std.proofs.Common.{◌≡◌, ◌≢◌, ◌∙◌, ℕ, ◌+◌, ◌<◌, ◌≤◌, Bool, true, false, cond, List, ◌++◌, Option, Some, None, refl, ap, arith}
+use Rattle.std.proofs.Common.{◌≡◌, ◌≢◌, ◌∙◌, ℕ, ◌<◌, Bool, true, false, cond, List, ◌++◌, Option, Some, None, refl, ap, arith}
 use Rattle.big_atomic.proofs.Paid.{exchanges-append, lost-append}
 use Rattle.big_atomic.specs.Turns.{exchanges}
 use Rattle.cache_hash.specs.Asking.{call_for, plain_reply, would_change}
-use Rattle.cache_hash.specs.Calls.{KeepsFree, tries}
+use Rattle.cache_hash.specs.Changing.{KeepsFree, Tries}
 use Rattle.cache_hash.specs.declared.asked.Change.{Change}
 use Rattle.cache_hash.specs.declared.asked.Change.TheVariants.{Insert, Replace, Remove}
 use Rattle.seat_history.specs.Change.{is_change}
@@ -11,7 +11,6 @@ use Rattle.seat_history.specs.Contents.{Contents}
 use Rattle.seat_history.specs.Key.{key_number}
 use Rattle.seat_history.specs.Step.{held_after, is_same, reply_to}
 use Rattle.seat_history.specs.declared.call.Call.{Call}
-use Rattle.seat_history.specs.declared.call.Call.TheVariants.{Insert as InsertCall}
 use Rattle.seat_history.specs.declared.entry.Entry.{Entry}
 use Rattle.seat_history.specs.declared.key.KeyWords.{KeyWords}
 use Rattle.seat_history.specs.declared.reply.Reply.TheVariants.{Found, Full, Yes}
@@ -55,21 +54,20 @@ holds_by key Remove c held = refl
 
 -- free nodes
 pub keeps_same : (call : Call) {old new : List ℕ} → new ≡ old → KeepsFree call old new
-keeps_same (InsertCall key val) same = same
-keeps_same _ same = λ n. ap (times n) same
+keeps_same call same = record { nodes = λ n. ap (times n) same; order = λ _. same }
 
-pub keeps_then : (call : Call) (a b c : List ℕ) → KeepsFree call a b → KeepsFree call b c → KeepsFree call a c
-keeps_then (InsertCall key val) a b c first second = second ∙ first
-keeps_then _ a b c first second = λ n. second n ∙ first n
+pub keeps_then : {call : Call} {a b c : List ℕ} → KeepsFree call a b → KeepsFree call b c → KeepsFree call a c
+keeps_then first second = record { nodes = λ n. second.nodes n ∙ first.nodes n; order = λ insert. second.order insert ∙ first.order insert }
 
 -- tries
-pub tries-append : (call : Call) (a b : List Counted) → tries call (a ++ b) ≡ tries call a + tries call b
-tries-append (InsertCall key val) a b = exchanges-append a b
-tries-append _ a b = omega (arith, exchanges-append a b, lost-append a b)
+pub exchange_tries : (call : Call) (steps : List Counted) → 0 < exchanges steps → Tries call steps
+exchange_tries call steps some = record { tried = omega arith; exchanged = λ _. some }
 
-pub exchanges_try : (call : Call) (a : List Counted) → exchanges a ≤ tries call a
-exchanges_try (InsertCall key val) a = omega arith
-exchanges_try _ a = omega arith
+pub tries_then : {call : Call} (a b : List Counted) → Tries call a → Tries call (a ++ b)
+tries_then a b t = record {
+  tried = let some = t.tried in omega (arith, exchanges-append a b, lost-append a b);
+  exchanged = λ insert. let some = t.exchanged insert in omega (arith, exchanges-append a b);
+}
 
 -- a plain reply isn't Full
 pub never_full : (change : Change) (there : Option (List ℕ)) (need free : ℕ) → plain_reply change there ≢ Full need free

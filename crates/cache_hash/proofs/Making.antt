@@ -1,20 +1,20 @@
 -- How a change is made: the front is copied and installed.
-use Rattle.std.proofs.Common.{◌≡◌, ◌≢◌, ◌∙◌, ℕ, ◌*◌, ◌/◌, ◌<◌, ◌≤◌, suc, Bool, true, false, ne_eqb, List, [], ◌∷◌, ◌++◌, length, take, drop, refl, sym, ap, subst, arith, ◌⊎◌, inl, inr}
+use Rattle.std.proofs.Common.{◌≡◌, ◌≢◌, ◌∙◌, ℕ, ◌+◌, ◌*◌, ◌/◌, ◌<◌, ◌≤◌, suc, Bool, true, false, ne_eqb, List, [], ◌∷◌, ◌++◌, length, take, drop, refl, sym, ap, subst, arith, ◌⊎◌, inl, inr}
 use Rattle.std.proofs.lemmas.Bool.{cond-false, eqb-true, false≢true}
 use Rattle.std.proofs.lemmas.List.{take-append-drop, take_all}
 use Rattle.big_atomic.proofs.Answered.{HasAnswered}
 use Rattle.big_atomic.proofs.Goings.{goes_then, looked_then}
 use Rattle.big_atomic.proofs.Installed.{EndsChange, LostInstall, change_ready, change_records, change_scanned, change_tried, lost_install, won_change}
-use Rattle.big_atomic.proofs.Paid.{exchanges-append, scan_loads-append}
+use Rattle.big_atomic.proofs.Paid.{exchanges-append, lost-append, scan_loads-append}
 use Rattle.big_atomic.proofs.Winning.{all_steps, has_won, stand, won_on, won_plan, won_stays, won_told}
 use Rattle.big_atomic.specs.Installing.{HasInstalled, HasMoved}
 use Rattle.big_atomic.specs.Ready.{IsReady}
 use Rattle.big_atomic.specs.Turns.{exchanges, lost_steps, scan_loads}
 use Rattle.cache_hash.proofs.Fronted.{GaveUp, HasPrepared, MayPrepare, gave_up, insert_prepared, remove_prepared, replace_prepared}
-use Rattle.cache_hash.proofs.Keyed.{changes_in, exchanges_try, holds_by, never_full, on_key, replies_by, there_for, tries-append}
+use Rattle.cache_hash.proofs.Keyed.{changes_in, exchange_tries, holds_by, never_full, on_key, replies_by, there_for}
 use Rattle.cache_hash.proofs.Progress.{Onward, going_on, wants_more}
-use Rattle.cache_hash.specs.Asking.{HasEnded, IsEditOf, NeverChanges, call_for, plain_reply, would_change}
-use Rattle.cache_hash.specs.Calls.{KeepsFree, WantsNodes, tries, value_at}
+use Rattle.cache_hash.specs.Asking.{HasEnded, IsEditOf, IsInsert, NeverChanges, call_for, plain_reply, would_change}
+use Rattle.cache_hash.specs.Calls.{WantsNodes, value_at}
 use Rattle.cache_hash.specs.Changing.{Begins, Changing, HasTried, MayMake, Scans}
 use Rattle.cache_hash.specs.declared.asked.Change.{Change}
 use Rattle.cache_hash.specs.declared.asked.Due.{Due}
@@ -40,7 +40,6 @@ use Rattle.step_rules.proofs.Order.Fronts.{need_some}
 use Rattle.step_rules.proofs.Order.RecordsTell.{is_there_value, place_within, value_at as value_in_records}
 use Rattle.step_rules.proofs.Rely.Advance.{goes_further}
 use Rattle.step_rules.proofs.World.Contents.{history_before}
-use Rattle.step_rules.specs.Bags.{times}
 use Rattle.step_rules.specs.Claims.{BACK, HOLD, On, OWN}
 use Rattle.step_rules.specs.History.{GoesOn, IsHistory, cell_of, key_cell}
 use Rattle.step_rules.specs.Lawful.{is_full}
@@ -103,15 +102,11 @@ copied_front {cell} {word} {node} {mid} {copied} key change (RemoveEdit at) is m
     subst (λ (c : Call). MayPrepare cell word c mid → IsPrepared cell word node c mid copied) (sym is.1) (λ may_now. remove_prepared may_now is.0 copies law) may
 
 -- a copy is given up by a replace or a remove alone
-record MayGiveUp (call : Call) : Type 0 where
-  pub free : (old new : List ℕ) → ((n : ℕ) → times n new ≡ times n old) → KeepsFree call old new
-  pub tried : (steps : List Counted) → lost_steps steps ≤ tries call steps
-
 given_up : {cell : ℕ} {mid now : SeatData} (key : KeyWords) (change : Change) (edit : Edit) → IsEditOf key change (claimed_records mid.view) edit → IsCopied cell edit Moved mid now
-    → HasGivenUp cell mid now × MayGiveUp (call_for key change)
+    → HasGivenUp cell mid now × (IsInsert (call_for key change) → ⊥)
 given_up key change (InsertEdit other val) is copies = absurd copies
-given_up key change (ReplaceEdit at val) is copies = (copies, subst MayGiveUp (sym is.1.1) (record { free = λ old new same. same; tried = λ steps. omega arith }))
-given_up key change (RemoveEdit at) is copies = (copies, subst MayGiveUp (sym is.1) (record { free = λ old new same. same; tried = λ steps. omega arith }))
+given_up key change (ReplaceEdit at val) is copies = (copies, λ insert. subst IsInsert is.1.1 insert)
+given_up key change (RemoveEdit at) is copies = (copies, λ insert. subst IsInsert is.1 insert)
 
 module _ {shared : ObjectData} {key : KeyWords} {change : Change} {cell word : ℕ} {due : Due} {scanned : Bool} {before mid : SeatData}
     (m : MayMake shared key change cell word due scanned before mid) where
@@ -170,11 +165,11 @@ module _ {shared : ObjectData} {key : KeyWords} {change : Change} {cell word : �
         own = λ none. ap (λ (x : Claim). x.word) (u.claims OWN (λ e. absurd (omega arith))) ∙ none;
         retired = u.retired;
         none_scanned = u.looks.none_scanned;
-        free = λ _. up.1.free mid.free now.free u.free;
+        free = λ _. record { nodes = u.free; order = λ insert. absurd (up.1 insert) };
         never = λ _. u.looks.none_exchanged;
       } in
       let lost = u.some_lost in
-      (record { going = going_on i onward; tried = λ yes. omega (arith, tries-append call i.steps b, up.1.tried b) }, u.longer)
+      (record { going = going_on i onward; tried = λ yes. record { tried = omega (arith, lost-append i.steps b); exchanged = λ insert. absurd (up.1 insert) } }, u.longer)
 
 -- THE FRONT WAS COPIED
 pub record HasFront (shared : ObjectData) (key : KeyWords) (change : Change) (cell word : ℕ) (due : Due) (scanned : Bool) (node : ℕ) (before mid copied : SeatData) : Type 0 where
@@ -221,12 +216,8 @@ module _ {shared : ObjectData} {key : KeyWords} {change : Change} {cell word : �
         let before_that = longer_seen mid.view.seen copied.view.seen h.prepared.goes.seen in (
           record {
             going = going_on j onward;
-            tried = λ yes. omega (
-              arith,
-              tries-append (call_for key change) j.steps (h.steps ++ lost.steps),
-              exchanges_try (call_for key change) (h.steps ++ lost.steps),
-              exchanges-append h.steps lost.steps,
-            );
+            tried = λ yes. exchange_tries (call_for key change) (j.steps ++ (h.steps ++ lost.steps))
+                (omega (arith, exchanges-append j.steps (h.steps ++ lost.steps), exchanges-append h.steps lost.steps));
           },
           omega arith,
         )
@@ -331,12 +322,11 @@ module _ {shared : ObjectData} {key : KeyWords} {change : Change} {word : ℕ} {
 
   abbrev Scanned : ℕ → List Counted → Type 0
   Scanned look steps = (scan_loads steps ≡ 0) ⊎ (WantsNodes asked look before final.view × (scan_loads steps ≡ 4 * before.view.plan.seats)
-      × ((is_full (plain_reply change due.there) ≡ true) ⊎ (0 < tries asked steps)))
+      × ((is_full (plain_reply change due.there) ≡ true) ⊎ (0 < exchanges steps + lost_steps steps)))
 
   scans_for : (b : Bool) → Scans b asked going.steps going.look before mid → Scanned going.look (all_steps (won_change won))
   scans_for false s = inl (scanned_by ∙ s.none)
-  scans_for true s =
-      inr (wants_more final.view on plan_since s.want, scanned_by ∙ s.all, inr (omega (arith, tried_by, exchanges_try asked (all_steps (won_change won)))))
+  scans_for true s = inr (wants_more final.view on plan_since s.want, scanned_by ∙ s.all, inr (omega (arith, tried_by)))
 
   pub made : IsReady shared final × HasEnded key change (Plain due.there) before final
   made = (
@@ -353,5 +343,6 @@ module _ {shared : ObjectData} {key : KeyWords} {change : Change} {word : ℕ} {
       };
       value = ap (λ (s : Stand). value_at final.view s.place key) answer.stand_is ∙ value_won;
       never = λ never. absurd (ever h.may never);
+      quiet = λ insert not_full none. absurd (omega (arith, tried_by, ap exchanges answer.steps_are));
     },
   )

@@ -12,8 +12,8 @@ use Rattle.big_atomic.specs.Turns.{exchanges, scan_loads}
 use Rattle.cache_hash.proofs.Keyed.{keeps_same, keeps_then}
 use Rattle.cache_hash.proofs.Walking.{OnlyLooks}
 use Rattle.cache_hash.specs.Asking.{NeverChanges, call_for}
-use Rattle.cache_hash.specs.Calls.{KeepsFree, NeedsNodes, WantsNodes}
-use Rattle.cache_hash.specs.Changing.{Changing, Scans}
+use Rattle.cache_hash.specs.Calls.{NeedsNodes, WantsNodes}
+use Rattle.cache_hash.specs.Changing.{Changing, KeepsFree, Scans}
 use Rattle.cache_hash.specs.declared.asked.Change.{Change}
 use Rattle.hazard_claims.specs.Scanning.{IsScan, names}
 use Rattle.seat_history.proofs.Histories.{state_at-append}
@@ -108,7 +108,7 @@ module _ {shared : ObjectData} {key : KeyWords} {change : Change} {cell : ℕ} {
     own = o.own i.own;
     scans = scans_on scanned (call_for key change) i.steps i.look before i.goes.sound o i.scans;
     untouched = λ none none_tried.
-        let both = exchanges-append i.steps b in keeps_then (call_for key change) before.free mid.free now.free (i.untouched none (omega arith)) (o.free (omega arith));
+        let both = exchanges-append i.steps b in keeps_then (i.untouched none (omega arith)) (o.free (omega arith));
     never = λ never. let none_before = i.never never in let none_after = o.never never in omega (arith, exchanges-append i.steps b);
   }
 

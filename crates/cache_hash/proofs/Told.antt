@@ -4,15 +4,15 @@ use Rattle.std.proofs.Common.{not, length, drop, take, refl, sym, ap, subst, ari
 use Rattle.std.proofs.lemmas.Bool.{and_right, false≢true}
 use Rattle.big_atomic.proofs.Answered.{EndsAs, HasAnswered, MayEnd, answered_now, clear_step, ended_back, held_then, hold_stays, may_answer, ready_now, right_at, scanned_since}
 use Rattle.big_atomic.proofs.Paid.{exchanges-append, scan_loads-append}
-use Rattle.big_atomic.specs.Calls.{HoldStays, IsFullAnswer}
+use Rattle.big_atomic.specs.Calls.{HoldStays, IsFullAnswer, IsQuiet}
 use Rattle.big_atomic.specs.Ready.{IsReady}
-use Rattle.big_atomic.specs.Turns.{exchanges, scan_loads}
-use Rattle.cache_hash.proofs.Keyed.{changes_by, holds_by, keeps_same, keeps_then, never_full, on_key, plain_is_reply, replies_by, there_for, tries-append}
+use Rattle.big_atomic.specs.Turns.{exchanges, lost_steps, scan_loads}
+use Rattle.cache_hash.proofs.Keyed.{changes_by, holds_by, keeps_same, keeps_then, never_full, on_key, plain_is_reply, replies_by, there_for, tries_then}
 use Rattle.cache_hash.proofs.Progress.{going_on, looks_onward, needs_more, scanned_more, wants_more}
 use Rattle.cache_hash.proofs.Walking.{Cleared, cleared_part}
-use Rattle.cache_hash.specs.Asking.{HasEnded, HasValue, NeverChanges, call_for, plain_reply, told_change, told_reply, would_change}
-use Rattle.cache_hash.specs.Calls.{KeepsNodes, NeedsNodes, WantsNodes, tries, value_at}
-use Rattle.cache_hash.specs.Changing.{Changing, HasMadeScan, Knows, KnowsEnd, Scans}
+use Rattle.cache_hash.specs.Asking.{HasEnded, HasValue, IsInsert, NeverChanges, call_for, plain_reply, told_change, told_reply, would_change}
+use Rattle.cache_hash.specs.Calls.{KeepsNodes, NeedsNodes, WantsNodes, value_at}
+use Rattle.cache_hash.specs.Changing.{Changing, HasMadeScan, KeepsFree, Knows, KnowsEnd, Scans, Tries}
 use Rattle.cache_hash.specs.declared.asked.Change.{Change}
 use Rattle.cache_hash.specs.declared.asked.Told.{Told}
 use Rattle.cache_hash.specs.declared.asked.Told.TheVariants.{Full, Plain}
@@ -51,7 +51,7 @@ knows_value (Plain there) key change scanned steps now k = k.0
 knows_value (Full count free) key change scanned steps now k = tt
 
 knows_fits : (told : Told) (key : KeyWords) (change : Change) (scanned : Bool) (steps : List Counted) (now : SeatData) → Knows key change told scanned steps now
-    → scanned ≡ true → (is_full (told_reply change told) ≡ true) ⊎ (0 < tries (call_for key change) steps)
+    → scanned ≡ true → (is_full (told_reply change told) ≡ true) ⊎ Tries (call_for key change) steps
 knows_fits (Plain there) key change scanned steps now k e = inr (k.2 e)
 knows_fits (Full count free) key change scanned steps now k e = inl refl
 
@@ -72,7 +72,7 @@ knows_on : {cell : ℕ} (told : Told) (key : KeyWords) (change : Change) (scanne
 knows_on (Plain there) key change scanned steps mid now c k = (
   ap (λ (l : List Entry). (state_at l (length l)).values (key_number key)) c.seen ∙ k.0,
   k.1,
-  λ e. let tried = k.2 e in omega (arith, tries-append (call_for key change) steps c.steps),
+  λ e. tries_then steps c.steps (k.2 e),
 )
 knows_on (Full count free) key change scanned steps mid now c k =
     let call : Call = call_for key change in
@@ -214,24 +214,39 @@ module _ {shared : ObjectData} {key : KeyWords} {change : Change} {told : Told} 
     -- the scan
     abbrev Scanned : ℕ → List Counted → Type 0
     Scanned look steps = (scan_loads steps ≡ 0) ⊎ (WantsNodes call look before final.view × (scan_loads steps ≡ 4 * before.view.plan.seats)
-        × ((is_full reply ≡ true) ⊎ (0 < tries call steps)))
+        × ((is_full reply ≡ true) ⊎ (0 < exchanges steps + lost_steps steps)))
 
-    scans_for : (scanned : Bool) → Scans scanned call i.steps i.look before now → (scanned ≡ true → (is_full reply ≡ true) ⊎ (0 < tries call i.steps)) → Scanned i.look (i.steps ++ clear)
-    scans_for false s fits = inl (all_scanned ∙ s.none)
-    scans_for true s fits = inr (
+    fits : k.scanned ≡ true → (is_full reply ≡ true) ⊎ Tries call i.steps
+    fits = knows_fits told key change k.scanned i.steps now k.knows
+
+    scans_for : (scanned : Bool) → Scans scanned call i.steps i.look before now → k.scanned ≡ scanned → Scanned i.look (i.steps ++ clear)
+    scans_for false s e = inl (all_scanned ∙ s.none)
+    scans_for true s e = inr (
       wants_more final.view on final_plan s.want,
       all_scanned ∙ s.all,
-      ⊎_elim (λ full. inl full) (λ tried. inr (omega (arith, tries-append call i.steps clear))) (fits refl),
+      ⊎_elim (λ full. inl full) (λ tries. inr (tries_then i.steps clear tries).tried) (fits e),
     )
 
     -- without an exchange and a scan
+    free_kept : k.scanned ≡ false → exchanges (i.steps ++ clear) ≡ 0 → KeepsFree call before.free final.free
+    free_kept e none_tried = keeps_then (i.untouched e (sym all_tried ∙ none_tried)) (keeps_same call (ap (λ (z : SeatData). z.free) is))
+
     kept_for : (scanned : Bool) → Scans scanned call i.steps i.look before now → k.scanned ≡ scanned → exchanges (i.steps ++ clear) ≡ 0 → scan_loads (i.steps ++ clear) ≡ 0
-        → KeepsNodes call before final
-    kept_for false s e none_tried none_loaded = record {
-      free = keeps_then call before.free now.free final.free (i.untouched e (sym all_tried ∙ none_tried)) (keeps_same call (ap (λ (z : SeatData). z.free) is));
-      retired = ap (λ (z : View). z.retired) final_view ∙ s.retired;
-    }
+        → KeepsNodes before final
+    kept_for false s e none_tried none_loaded = record { free = (free_kept e none_tried).nodes; retired = ap (λ (z : View). z.retired) final_view ∙ s.retired }
     kept_for true s e none_tried none_loaded = let all = s.all in let some = i.goes.sound.plan.seats in absurd (omega (arith, all_scanned, ap (λ (p : Plan). p.seats) plan))
+
+    -- an insert without an exchange that isn't Full
+    quiet_for : (scanned : Bool) → Scans scanned call i.steps i.look before now → k.scanned ≡ scanned → IsInsert call → is_full reply ≡ false → exchanges (i.steps ++ clear) ≡ 0
+        → IsQuiet (i.steps ++ clear) before final
+    quiet_for false s e insert not_full none_tried = record {
+      free = (free_kept e none_tried).order insert;
+      retired = ap (λ (z : View). z.retired) final_view ∙ s.retired;
+      none_exchanged = none_tried;
+      none_scanned = all_scanned ∙ s.none;
+    }
+    quiet_for true s e insert not_full none_tried =
+        absurd (⊎_elim (λ full. false≢true (sym not_full ∙ full)) (λ tries. let some = tries.exchanged insert in omega (arith, all_tried)) (fits e))
 
     -- Full
     full_for : (told_now : Told) → Knows key change told_now k.scanned i.steps now → (count free : ℕ) → told_reply change told_now ≡ FullReply count free
@@ -268,8 +283,8 @@ module _ {shared : ObjectData} {key : KeyWords} {change : Change} {told : Told} 
           changes = ap (λ (s : Stand). s.changes) has.stand_is ∙ no_change told key change k.scanned i.steps now k.knows;
           hold = stays;
           scans = subst (λ (z : ℕ × List Counted). Scanned z.0 z.1) (λ j. (sym has.look_is j, sym has.steps_are j))
-              (scans_for k.scanned i.scans (knows_fits told key change k.scanned i.steps now k.knows));
-          kept = subst (λ (l : List Counted). exchanges l ≡ 0 → scan_loads l ≡ 0 → KeepsNodes call before final) (sym has.steps_are) (kept_for k.scanned i.scans refl);
+              (scans_for k.scanned i.scans refl);
+          kept = subst (λ (l : List Counted). exchanges l ≡ 0 → scan_loads l ≡ 0 → KeepsNodes before final) (sym has.steps_are) (kept_for k.scanned i.scans refl);
           full = λ count free e.
               subst (λ (z : Stand × List Counted). IsFullAnswer count free z.1 before final × NeedsNodes call z.0.place count final.view)
               (λ j. (sym has.stand_is j, sym has.steps_are j)) (let f = full_for told k.knows count free e in (f.0, f.1));
@@ -279,5 +294,6 @@ module _ {shared : ObjectData} {key : KeyWords} {change : Change} {told : Told} 
             (knows_value told key change k.scanned i.steps now k.knows);
         never = λ never. subst (λ (l : List Counted). (exchanges l ≡ 0) × (scan_loads l ≡ 0)) (sym has.steps_are)
             (all_tried ∙ i.never never, all_scanned ∙ scanned_never told key change k.scanned i.steps i.look before now i.scans never);
+        quiet = λ insert not_full. subst (λ (l : List Counted). exchanges l ≡ 0 → IsQuiet l before final) (sym has.steps_are) (quiet_for k.scanned i.scans refl insert not_full);
       },
     )

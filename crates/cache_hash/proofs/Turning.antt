@@ -8,7 +8,7 @@ use Rattle.big_atomic.specs.Calling.{Goes, HasClaimed}
 use Rattle.big_atomic.specs.Installing.{HasNear}
 use Rattle.big_atomic.specs.Ready.{IsReady}
 use Rattle.cache_hash.proofs.Finding.{OnWay, has_back, longer, seen_part, value_of_records, way_counts, way_end, way_found, way_lost}
-use Rattle.cache_hash.proofs.Keyed.{changes_by, keeps_same, on_key, there_for, tries-append}
+use Rattle.cache_hash.proofs.Keyed.{changes_by, keeps_same, on_key, there_for, tries_then}
 use Rattle.cache_hash.proofs.Progress.{Onward, after_scan, going_on, looks_onward}
 use Rattle.cache_hash.specs.Asking.{Decides, call_for, would_change}
 use Rattle.cache_hash.specs.Calls.{NeedsNodes, value_at}
@@ -89,7 +89,7 @@ tried_more : {shared : ObjectData} {key : KeyWords} {change : Change} {cell : �
     → Onward key change cell b mid now → HasTried shared key change cell scanned before now
 tried_more {key = key} {change = change} {b = b} t o = record {
   going = going_on t.going o;
-  tried = λ yes. let tried = t.tried yes in omega (arith, tries-append (call_for key change) t.going.steps b);
+  tried = λ yes. tries_then t.going.steps b (t.tried yes);
 }
 
 pub next_turn : {shared : ObjectData} {key : KeyWords} {change : Change} {cell word : ℕ} {scanned : Bool} {before mid now : SeatData} → HasTried shared key change cell scanned before mid

@@ -1,6 +1,7 @@
 -- What is asked of a key's pair, what a turn decides, and how the call ends.
 use Rattle.std.specs.Prelude.{◌≡◌, ⊤, ℕ, ◌&&◌, Bool, true, false, not, is_none, is_some, if◌then◌else◌, List, Option, Some, None, length}
 use Rattle.std.specs.Option.{option_map_or}
+use Rattle.big_atomic.specs.Calls.{IsQuiet}
 use Rattle.big_atomic.specs.Turns.{exchanges, scan_loads}
 use Rattle.cache_hash.specs.Calls.{IsKeyChange, value_at}
 use Rattle.cache_hash.specs.declared.answers.Insert.{Insert as InsertAnswer}
@@ -24,6 +25,7 @@ use Rattle.seat_history.specs.declared.call.Call.TheVariants.{Insert as InsertCa
 use Rattle.seat_history.specs.declared.key.KeyWords.{KeyWords}
 use Rattle.seat_history.specs.declared.reply.Reply.{Reply}
 use Rattle.seat_history.specs.declared.reply.Reply.TheVariants.{Absent, Done, Full as FullReply, Gone, Present}
+use Rattle.step_rules.specs.Lawful.{is_full}
 use Rattle.step_rules.specs.Records.{edit_of, need, place_in}
 use Rattle.step_rules.specs.SeatData.{SeatData}
 
@@ -76,12 +78,19 @@ HasValue (Full needed free) found = ⊤
 abbrev pub NeverChanges : Change → Type 0
 NeverChanges change = (there : Option (List ℕ)) → would_change change there ≡ false
 
+-- the call is an insert, whose copy is never given up
+abbrev pub IsInsert : Call → Type 0
+IsInsert (InsertCall key val) = ⊤
+IsInsert _ = ⊥
+
 -- the call has ended
 pub record HasEnded (key : KeyWords) (change : Change) (told : Told) (before after : SeatData) : Type 0 where
   pub ends : IsKeyChange (call_for key change) (told_reply change told) (told_change change told) before after
   pub value : HasValue told (value_at after.view ends.answered.stand.place key)
   -- a call that never changes an object makes no exchange and no scan
   pub never : NeverChanges change → (exchanges ends.answered.steps ≡ 0) × (scan_loads ends.answered.steps ≡ 0)
+  -- an insert that isn't Full and tries no exchange makes no scan, and leaves all nodes alone
+  pub quiet : IsInsert (call_for key change) → is_full (told_reply change told) ≡ false → exchanges ends.answered.steps ≡ 0 → IsQuiet ends.answered.steps before after
 
 -- what an insert answers at such an end
 abbrev pub insert_answer : Told → InsertAnswer

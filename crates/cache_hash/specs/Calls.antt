@@ -24,7 +24,6 @@ use Rattle.step_rules.specs.Order.{Needs}
 use Rattle.step_rules.specs.Records.{found_at}
 use Rattle.step_rules.specs.SeatData.{SeatData}
 use Rattle.step_rules.specs.Views.{stock}
-use Rattle.step_rules.specs.declared.view.Counted.{Counted}
 use Rattle.step_rules.specs.declared.view.View.{View}
 
 -- the key's value at a place, as the seat has seen the history
@@ -58,31 +57,21 @@ pub record WantsNodes (call : Call) (look : ℕ) (before : SeatData) (v : View) 
   pub needs : NeedsNodes call place need v
   pub few : length before.free < need
 
--- the free nodes are those that were free; a replace and a remove may leave them in another order
-abbrev pub KeepsFree : Call → List ℕ → List ℕ → Type 0
-KeepsFree (Insert key val) old new = new ≡ old
-KeepsFree _ old new = (n : ℕ) → times n new ≡ times n old
-
--- no node changed hands
-pub record KeepsNodes (call : Call) (before after : SeatData) : Type 0 where
-  pub free : KeepsFree call before.free after.free
+-- no node changed hands: the free ones are those that were free, in any order
+pub record KeepsNodes (before after : SeatData) : Type 0 where
+  pub free : (n : ℕ) → times n after.free ≡ times n before.free
   pub retired : after.view.retired ≡ before.view.retired
-
--- how often a call tried an exchange; a replace and a remove may give their copy up before that, at a lost step
-abbrev pub tries : Call → List Counted → ℕ
-tries (Insert key val) steps = exchanges steps
-tries _ steps = exchanges steps + lost_steps steps
 
 -- a call that changes its key's pair, or leaves the object as it is, was answered
 pub record IsKeyChange (call : Call) (reply : Reply) (changed : Bool) (before after : SeatData) : Type 0 where
   pub answered : Answered (cell_of before.view.plan call) call reply before after
   pub changes : answered.stand.changes ≡ changed
   pub hold : HoldStays before after
-  -- a scan was made at most once, and only for want of nodes: then the change was tried, or the reply is Full
+  -- a scan was made at most once, and only for want of nodes: then an exchange was tried, a step was lost, or the reply is Full
   pub scans : (scan_loads answered.steps ≡ 0) ⊎ (WantsNodes call answered.stood.look before after.view × (scan_loads answered.steps ≡ 4 * before.view.plan.seats)
-      × ((is_full reply ≡ true) ⊎ (0 < tries call answered.steps)))
-  -- without an exchange and a scan all nodes were left alone
-  pub kept : exchanges answered.steps ≡ 0 → scan_loads answered.steps ≡ 0 → KeepsNodes call before after
+      × ((is_full reply ≡ true) ⊎ (0 < exchanges answered.steps + lost_steps answered.steps)))
+  -- without an exchange and a scan no node changed hands
+  pub kept : exchanges answered.steps ≡ 0 → scan_loads answered.steps ≡ 0 → KeepsNodes before after
   -- Full comes after a whole scan of this call, with what is needed at the stand's place
   pub full : (need free : ℕ) → reply ≡ Full need free → IsFullAnswer need free answered.steps before after × NeedsNodes call answered.stand.place need after.view
   -- and only to a seat that has fewer nodes than there are claim words and nodes needed
@@ -108,8 +97,8 @@ is_done _ = false
 pub record IsInserted (key : KeyWords) (val : List ℕ) (answer : InsertAnswer) (before after : SeatData) : Type 0 where
   pub change : IsKeyChange (Insert key val) (insert_reply answer) (is_done answer) before after
   pub there : value_at after.view change.answered.stand.place key ≡ value_there answer
-  -- a Present that tried no exchange left all nodes alone
-  pub quiet : (there : List ℕ) → answer ≡ InsertPresent there → exchanges change.answered.steps ≡ 0 → IsQuiet change.answered.steps before after
+  -- where it isn't Full and tried no exchange, it made no scan, and left the free nodes in their order
+  pub quiet : is_full (insert_reply answer) ≡ false → exchanges change.answered.steps ≡ 0 → IsQuiet change.answered.steps before after
   pub removes : after.view.removes ≡ before.view.removes
   -- a seat that has two nodes more than there are claim words is never short of two
   pub enough : 4 * before.view.plan.seats + 1 < stock before.view → (need free : ℕ) → answer ≢ InsertFull need free

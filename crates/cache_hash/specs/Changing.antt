@@ -1,11 +1,11 @@
 -- A change of a key's pair as far as it has come.
-use Rattle.std.specs.Prelude.{◌≡◌, ◌⊎◌, ℕ, ◌*◌, ◌/◌, ◌<◌, ◌≤◌, Bool, true, false, List, [], Option, None, length, filter}
+use Rattle.std.specs.Prelude.{◌≡◌, ◌⊎◌, ℕ, ◌+◌, ◌*◌, ◌/◌, ◌<◌, ◌≤◌, Bool, true, false, List, [], Option, None, length, filter}
 use Rattle.big_atomic.specs.Calling.{Goes, HasClaim, IsLooked}
 use Rattle.big_atomic.specs.Installing.{HasNear}
 use Rattle.big_atomic.specs.Ready.{IsReady}
-use Rattle.big_atomic.specs.Turns.{exchanges, scan_loads}
-use Rattle.cache_hash.specs.Asking.{Decides, HasEnded, NeverChanges, call_for, would_change}
-use Rattle.cache_hash.specs.Calls.{KeepsFree, NeedsNodes, WantsNodes, tries, value_at}
+use Rattle.big_atomic.specs.Turns.{exchanges, lost_steps, scan_loads}
+use Rattle.cache_hash.specs.Asking.{Decides, HasEnded, IsInsert, NeverChanges, call_for, would_change}
+use Rattle.cache_hash.specs.Calls.{NeedsNodes, WantsNodes, value_at}
 use Rattle.cache_hash.specs.declared.asked.Change.{Change}
 use Rattle.cache_hash.specs.declared.asked.Decision.{Decision}
 use Rattle.cache_hash.specs.declared.asked.Decision.TheVariants.{Changes}
@@ -18,6 +18,7 @@ use Rattle.hazard_claims.specs.Scanning.{IsScan, names}
 use Rattle.seat_history.specs.Key.{key_number}
 use Rattle.seat_history.specs.declared.call.Call.{Call}
 use Rattle.seat_history.specs.declared.key.KeyWords.{KeyWords}
+use Rattle.step_rules.specs.Bags.{times}
 use Rattle.step_rules.specs.Claims.{BACK, HOLD, On, OWN}
 use Rattle.step_rules.specs.History.{IsWide, key_cell}
 use Rattle.step_rules.specs.Records.{need_at, records_at, removes_of, value_in}
@@ -52,6 +53,16 @@ abbrev pub Scans : Bool → Call → List Counted → ℕ → SeatData → SeatD
 Scans false call steps look before now = HasNotScanned steps before now
 Scans true call steps look before now = HasMadeScan call steps look before now
 
+-- the free nodes are those that were free, and an insert leaves their order
+pub record KeepsFree (call : Call) (old new : List ℕ) : Type 0 where
+  pub nodes : (n : ℕ) → times n new ≡ times n old
+  pub order : IsInsert call → new ≡ old
+
+-- these steps try the change: by an exchange, or up to a lost step at which the copy is given up, which an insert's isn't
+pub record Tries (call : Call) (steps : List Counted) : Type 0 where
+  pub tried : 0 < exchanges steps + lost_steps steps
+  pub exchanged : IsInsert call → 0 < exchanges steps
+
 -- it made these steps; it holds no node, and its Own word is 0. Without a scan and an exchange the free nodes are those at first, and a call that
 -- never changes an object tries no exchange
 pub record Changing (shared : ObjectData) (key : KeyWords) (change : Change) (cell : ℕ) (scanned : Bool) (before now : SeatData) : Type 0 where
@@ -71,7 +82,7 @@ pub record Changing (shared : ObjectData) (key : KeyWords) (change : Change) (ce
 -- a scan was followed by an exchange, or a copy that was given up
 pub record HasTried (shared : ObjectData) (key : KeyWords) (change : Change) (cell : ℕ) (scanned : Bool) (before now : SeatData) : Type 0 where
   pub going : Changing shared key change cell scanned before now
-  pub tried : scanned ≡ true → 0 < tries (call_for key change) going.steps
+  pub tried : scanned ≡ true → Tries (call_for key change) going.steps
 
 -- a turn begins: the node of the word that was found last in the cell is claimed
 pub record IsAtTurn (shared : ObjectData) (key : KeyWords) (change : Change) (cell word : ℕ) (scanned : Bool) (before now : SeatData) : Type 0 where
@@ -116,7 +127,7 @@ pub data MakesRoom (need : ℕ) (scanned made : Bool) (old new : SeatData) : Typ
 -- the call may end so, without a change
 abbrev pub Knows : KeyWords → Change → Told → Bool → List Counted → SeatData → Type 0
 Knows key change (Plain there) scanned steps now = (value_at now.view (length now.view.seen) key ≡ there) × (would_change change there ≡ false)
-    × (scanned ≡ true → 0 < tries (call_for key change) steps)
+    × (scanned ≡ true → Tries (call_for key change) steps)
 Knows key change (Full need free) scanned steps now = NeedsNodes (call_for key change) (length now.view.seen) need now.view
     × (need ≡ need_at now.view.plan now.view.seen (length now.view.seen) (call_for key change)) × (scanned ≡ true) × (free ≡ length now.free) × (free < need)
 
