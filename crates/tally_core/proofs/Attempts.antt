@@ -12,7 +12,6 @@ use Rattle.cache_hash.specs.Calls.{IsFound, IsInserted, IsReplaced, value_at}
 use Rattle.cache_hash.specs.declared.answers.Insert.TheVariants.{Done as InsertDone, Present as InsertPresent, Full as InsertFull}
 use Rattle.cache_hash.specs.declared.answers.Replace.TheVariants.{Yes as ReplaceYes, Found as ReplaceFound, Absent as ReplaceAbsent, Full as ReplaceFull}
 use Rattle.flow_fold.specs.Flows.{Flows}
-use Rattle.flow_fold.specs.Merge.{merge_of}
 use Rattle.flow_fold.specs.Words.{words_of}
 use Rattle.flow_fold.specs.declared.key.Key.{Key}
 use Rattle.flow_fold.specs.declared.value.Value.{Value}
@@ -27,7 +26,7 @@ use Rattle.step_rules.specs.Lawful.{is_full}
 use Rattle.step_rules.specs.SeatData.{ObjectData, SeatData}
 use Rattle.step_rules.specs.declared.view.Stand.{Stand}
 use Rattle.tally_core.proofs.StandStocks.{no_stocks, stocks_on}
-use Rattle.tally_core.specs.Adding.{Adds, AddsBy, HasValues, IsTallyCall, IsValueInRange, adding_in, is_adding, is_adding_reply, key_words}
+use Rattle.tally_core.specs.Adding.{Adds, AddsBy, AreInRange, AreOfValue, HasValues, IsInRange, IsTallyCall, Merges, adding_in, is_adding, is_adding_reply, key_words}
 use Rattle.tally_core.specs.Attempts.{EndsFull, HasWorked, IsAdding, IsTrying, last_from, last_place}
 
 -- one more of two lists each, place by place
@@ -37,9 +36,9 @@ zip_append R [] us (y ∷ ys) vs p q = absurd p
 zip_append R (x ∷ xs) us [] vs p q = absurd p
 zip_append R (x ∷ xs) us (y ∷ ys) vs p q = (p.0, zip_append R xs us ys vs p.1 q)
 
-pub all_push : {X : Type 0} (P : X → Type 0) (xs : List X) (x : X) → AllByRecursion P xs → P x → AllByRecursion P (xs ++ x ∷ [])
-all_push P [] x all own = (own, tt)
-all_push P (y ∷ ys) x all own = (all.0, all_push P ys x all.1 own)
+all_append : {X : Type 0} (P : X → Type 0) (xs ys : List X) → AllByRecursion P xs → AllByRecursion P ys → AllByRecursion P (xs ++ ys)
+all_append P [] ys all own = own
+all_append P (x ∷ xs) ys all own = (all.0, all_append P xs ys all.1 own)
 
 last_push : (n : ℕ) (stands : List Stand) (s : Stand) → last_from n (stands ++ s ∷ []) ≡ s.place
 last_push n [] s = refl
@@ -58,16 +57,17 @@ module _ {k : ℕ} {asked : Call} {told : Reply} {before after : SeatData} (a : 
   adds_it pair adds = subst (λ c. AddsBy pair c a.stand.reply) (sym a.stood.call) (subst (AddsBy pair asked) (sym a.stood.reply) adds)
 
   on : {shared : ObjectData} {added : Flows} (more : Flows) → IsAdding shared added before → IsReady shared after → HoldStays before after
-      → AllZip Adds more (adding_in (a.stand ∷ [])) → IsTallyCall a.stand
+      → AllZip Adds more (adding_in (a.stand ∷ [])) → AreInRange more → IsTallyCall a.stand
       → before.view.changes ≤ after.view.changes + length more → IsAdding shared (added ++ more) after
-  on {added} more was ready hold zipped tally fewer = record {
+  on {added} more was ready hold zipped range tally fewer = record {
     ready = ready;
     some = was.some;
     one = ap length a.stood.numbers ∙ was.one;
     none_held = ap is_some hold.held ∙ was.none_held;
     adds = subst (AllZip Adds (added ++ more)) (sym (ap adding_in a.stood.stands ∙ filter-append is_adding before.view.stands (a.stand ∷ [])))
         (zip_append Adds added more (adding_in before.view.stands) (adding_in (a.stand ∷ [])) was.adds zipped);
-    calls = subst (AllByRecursion IsTallyCall) (sym a.stood.stands) (all_push IsTallyCall before.view.stands a.stand was.calls tally);
+    in_range = all_append IsInRange added more was.in_range range;
+    calls = subst (AllByRecursion IsTallyCall) (sym a.stood.stands) (all_append IsTallyCall before.view.stands (a.stand ∷ []) was.calls (tally, tt));
     stocks = stocks_on before after a.stand was.ready was.one a.stood.stands a.stood.stock a.stood.seen was.stocks;
     left = omega (arith, was.left, fewer, length-append added more);
   }
@@ -84,16 +84,15 @@ module _ {k : ℕ} {asked : Call} {told : Reply} {before after : SeatData} (a : 
       } in
       let same : after.view.changes + 0 ≡ before.view.changes = subst (λ b. after.view.changes + cond b 1 0 ≡ before.view.changes) still a.stood.changes in
       subst (λ (l : Flows). IsAdding shared l after) (append-nil added)
-      (on [] was ready hold (subst (λ b. AllZip Adds [] (cond b (a.stand ∷ []) [])) (sym reply) tt) tally (omega (arith, same)))
+      (on [] was ready hold (subst (λ b. AllZip Adds [] (cond b (a.stand ∷ []) [])) (sym reply) tt) tt tally (omega (arith, same)))
 
   -- it adds the pair
   pub added_one : {shared : ObjectData} {added : Flows} (pair : Key × Value) → IsAdding shared added before → IsReady shared after → HoldStays before after → HasValues asked
-      → is_adding_reply told ≡ true
-      → AddsBy pair asked told → IsAdding shared (added ++ pair ∷ []) after
-  added_one {added} pair was ready hold values one adds =
+      → is_adding_reply told ≡ true → AddsBy pair asked told → IsInRange pair → IsAdding shared (added ++ pair ∷ []) after
+  added_one {added} pair was ready hold values one adds range =
       let reply : is_adding a.stand ≡ true = ap is_adding_reply a.stood.reply ∙ one in
       let tally : IsTallyCall a.stand = record { values = subst HasValues (sym a.stood.call) values; adds = λ _. (pair, adds_it pair adds) } in
-      on (pair ∷ []) was ready hold (subst (λ b. AllZip Adds (pair ∷ []) (cond b (a.stand ∷ []) [])) (sym reply) (adds_it pair adds, tt)) tally
+      on (pair ∷ []) was ready hold (subst (λ b. AllZip Adds (pair ∷ []) (cond b (a.stand ∷ []) [])) (sym reply) (adds_it pair adds, tt)) (range, tt) tally
       (one_spent a.stand.changes before.view.changes after.view.changes a.stood.changes)
 
   -- the last stand is Full where the reply is
@@ -135,38 +134,36 @@ found {key = key} {there = there} {after = after} is ready was =
 
 -- an insert was tried
 module _ {shared : ObjectData} {added : Flows} {key : Key} {value : Value} {words : KeyWords} {val : List ℕ} {before after : SeatData} (words_are : words ≡ key_words key)
-    (val_is : val ≡ words_of value) (range : IsValueInRange value) (ready : IsReady shared after) (was : IsTrying shared added (key_words key) None before) where
+    (val_is : val ≡ words_of value) (range : IsInRange (key, value)) (ready : IsReady shared after) (was : IsTrying shared added (key_words key) None before) where
   pub insert_done : IsInserted words val InsertDone before after → IsAdding shared (added ++ (key, value) ∷ []) after
-  insert_done is = added_one is.change.answered (key, value) was.adding ready is.change.hold (value, range, val_is) refl (words_are, val_is)
+  insert_done is = added_one is.change.answered (key, value) was.adding ready is.change.hold (value, range.1, val_is) refl (words_are, val_is) range
 
   pub insert_present : {there : List ℕ} → IsInserted words val (InsertPresent there) before after
       → IsTrying shared added (key_words key) (Some there) after × (last_place before.view.stands < last_place after.view.stands)
   insert_present {there} is =
       let a = is.change.answered in
       let value_is : value_at after.view a.stand.place (key_words key) ≡ Some there = ap (value_at after.view a.stand.place) (sym words_are) ∙ is.there in (
-        knows a (added_none a was.adding ready is.change.hold (value, range, val_is) refl is.change.changes) value_is,
+        knows a (added_none a was.adding ready is.change.hold (value, range.1, val_is) refl is.change.changes) value_is,
         later a was value_is (λ e. cc),
       )
 
   pub insert_full : {need free : ℕ} → IsInserted words val (InsertFull need free) before after → IsAdding shared added after × EndsFull after.view.stands
   insert_full is =
       let a = is.change.answered in
-      (added_none a was.adding ready is.change.hold (value, range, val_is) refl is.change.changes, ends_full a refl)
+      (added_none a was.adding ready is.change.hold (value, range.1, val_is) refl is.change.changes, ends_full a refl)
 
 -- a replace was tried
-module _ {shared : ObjectData} {added : Flows} {key : Key} (value known : Value) {words : KeyWords} {old new : List ℕ} {before after : SeatData} (words_are : words ≡ key_words key)
-    (old_is : old ≡ words_of known) (new_is : new ≡ words_of (merge_of known value)) (known_range : IsValueInRange known) (range : IsValueInRange (merge_of known value))
-    (ready : IsReady shared after) (was : IsTrying shared added (key_words key) (Some old) before) where
-  pub replace_yes : IsReplaced words old new ReplaceYes before after → IsAdding shared (added ++ (key, value) ∷ []) after
-  replace_yes is = added_one is.change.answered (key, value) was.adding ready is.change.hold ((known, known_range, old_is), (merge_of known value, range, new_is)) refl
-      (words_are, (known, known_range, old_is, new_is))
+module _ {shared : ObjectData} {added : Flows} {key : Key} (value : Value) {words : KeyWords} {old new : List ℕ} {before after : SeatData} (words_are : words ≡ key_words key)
+    (merges : Merges value old new) (of_value : AreOfValue new) (ready : IsReady shared after) (was : IsTrying shared added (key_words key) (Some old) before) where
+  pub replace_yes : IsInRange (key, value) → IsReplaced words old new ReplaceYes before after → IsAdding shared (added ++ (key, value) ∷ []) after
+  replace_yes range is = added_one is.change.answered (key, value) was.adding ready is.change.hold ((merges.0, merges.1, merges.2), of_value) refl (words_are, merges) range
 
   pub replace_found : {there : List ℕ} → IsReplaced words old new (ReplaceFound there) before after
       → IsTrying shared added (key_words key) (Some there) after × (last_place before.view.stands < last_place after.view.stands)
   replace_found {there} is =
       let a = is.change.answered in
       let value_is : value_at after.view a.stand.place (key_words key) ≡ Some there = ap (value_at after.view a.stand.place) (sym words_are) ∙ is.there in (
-        knows a (added_none a was.adding ready is.change.hold ((known, known_range, old_is), (merge_of known value, range, new_is)) refl is.change.changes) value_is,
+        knows a (added_none a was.adding ready is.change.hold ((merges.0, merges.1, merges.2), of_value) refl is.change.changes) value_is,
         later a was value_is (λ e. let same : old ≡ there = cc in is.unlike there refl (sym same)),
       )
 
@@ -175,14 +172,14 @@ module _ {shared : ObjectData} {added : Flows} {key : Key} (value known : Value)
   replace_absent is =
       let a = is.change.answered in
       let value_is : value_at after.view a.stand.place (key_words key) ≡ None = ap (value_at after.view a.stand.place) (sym words_are) ∙ is.there in (
-        knows a (added_none a was.adding ready is.change.hold ((known, known_range, old_is), (merge_of known value, range, new_is)) refl is.change.changes) value_is,
+        knows a (added_none a was.adding ready is.change.hold ((merges.0, merges.1, merges.2), of_value) refl is.change.changes) value_is,
         later a was value_is (λ e. cc),
       )
 
   pub replace_full : {need free : ℕ} → IsReplaced words old new (ReplaceFull need free) before after → IsAdding shared added after × EndsFull after.view.stands
   replace_full is =
       let a = is.change.answered in
-      (added_none a was.adding ready is.change.hold ((known, known_range, old_is), (merge_of known value, range, new_is)) refl is.change.changes, ends_full a refl)
+      (added_none a was.adding ready is.change.hold ((merges.0, merges.1, merges.2), of_value) refl is.change.changes, ends_full a refl)
 
 -- a worker that made no call yet
 pub unused_adding : {shared : ObjectData} {seat : SeatData} → IsUnused shared seat → 0 < shared.plan.buckets → IsAdding shared [] seat
@@ -193,6 +190,7 @@ unused_adding {shared} {seat} unused some =
       one = unused.one;
       none_held = unused.none_held;
       adds = subst (λ l. AllZip Adds [] (adding_in l)) (sym unused.stands) tt;
+      in_range = tt;
       calls = subst (AllByRecursion IsTallyCall) (sym unused.stands) tt;
       stocks = no_stocks shared.plan v.stands v.seen unused.stands;
       left = omega (arith, unused.changes);
@@ -204,6 +202,6 @@ pub has_worked : {shared : ObjectData} (pairs : Flows) (full : Bool) (count : �
 has_worked {shared} pairs full count {seat} within is all last = record {
   done = record { ours = is.ready.ours; law = is.ready.law; quiet = ready_quiet shared seat is.ready is.none_held };
   one = is.one;
-  added = record { count = count; within = within; added = is.adds; calls = is.calls; all = all; last = last };
+  added = record { count = count; within = within; added = is.adds; in_range = is.in_range; calls = is.calls; all = all; last = last };
   stocks = is.stocks;
 }

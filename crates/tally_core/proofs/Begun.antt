@@ -22,8 +22,7 @@ use Rattle.step_rules.specs.declared.plan.Plan.{Plan}
 use Rattle.step_rules.specs.declared.view.Stand.{Stand}
 use Rattle.tally_core.proofs.Coming.{few_by}
 use Rattle.tally_core.proofs.StandStocks.{no_stocks}
-use Rattle.tally_core.specs.Workers.{HasCome, HasOpened, HasRoom, HasSeats, HaveCome, IsFor, entries_of, lines_by, removes_in, replies_of, seats_of}
-use Rattle.tally_core.specs.declared.callers.Caller.{Caller}
+use Rattle.tally_core.specs.Workers.{Caller, HasCome, HasOpened, HasRoom, HasSeats, HaveCome, IsFor, entries_of, lines_by, removes_in, replies_of, seats_of}
 
 is_there : (p : Plan) (call : Call) → p.registers ≡ 16 → 0 < p.buckets → NamesBelow 16 call → IsThere p call
 is_there p (Load reg) registers buckets below = omega (arith, registers, below)

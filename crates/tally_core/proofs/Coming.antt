@@ -23,8 +23,7 @@ use Rattle.step_rules.specs.declared.view.Stand.{Stand}
 use Rattle.tally_core.proofs.StandStocks.{stocks_on}
 use Rattle.tally_core.specs.Calls.{CanMake, HasMade}
 use Rattle.tally_core.specs.Driving.{leaves}
-use Rattle.tally_core.specs.Workers.{HasCome, HasRun, entries_of, lines_by, removes_in, replies_of}
-use Rattle.tally_core.specs.declared.callers.Caller.{Caller}
+use Rattle.tally_core.specs.Workers.{Caller, HasCome, HasRun, entries_of, lines_by, removes_in, replies_of}
 
 pub lines_own : (x : ℕ) (line : Entry) (rest : List Entry) → line.caller ≡ x → lines_by x (line ∷ rest) ≡ line ∷ lines_by x rest
 lines_own x line rest e = ap (λ b. cond b (line ∷ lines_by x rest) (lines_by x rest)) (eq-eqb line.caller x e)
@@ -35,6 +34,11 @@ lines_past x line rest other = ap (λ b. cond b (line ∷ lines_by x rest) (line
 -- the next line and those behind it
 pub drop_one : (lines : List Entry) (i : ℕ) (d : Entry) → i < length lines → drop i lines ≡ get_or lines i d ∷ drop (i + 1) lines
 drop_one lines i d l = let next : suc i ≡ i + 1 = omega arith in drop-cons lines i d l ∙ ap (λ n. get_or lines i d ∷ drop n lines) next
+
+-- a caller that came to a line has that line before it
+pub come_to : {shared : ObjectData} {lines : List Entry} {x : ℕ} {caller : Caller} (i : ℕ) (d : Entry) → i < length lines → HasCome shared lines x (drop i lines) caller
+    → HasCome shared lines x (get_or lines i d ∷ drop (i + 1) lines) caller
+come_to {shared} {lines} {x} {caller} i d l come = subst (λ (rest : List Entry). HasCome shared lines x rest caller) (drop_one lines i d l) come
 
 -- a caller has no more lines than there are
 pub few_by : (x : ℕ) (lines : List Entry) → length (lines_by x lines) ≤ length lines
@@ -48,11 +52,11 @@ made_stocks : {shared : ObjectData} {x : ℕ} {before after : SeatData} {call : 
 made_stocks {before = before} {after = after} ready numbers made stocks = stocks_on before after made.stand ready (ap length numbers) made.more made.stock_is made.seen stocks
 
 -- there are no more replies than lines
-pub few_told : {shared : ObjectData} {lines rest : List Entry} {x : ℕ} {caller : Caller} → HasCome shared lines x rest caller → length caller.replies.items ≤ length lines
+pub few_told : {shared : ObjectData} {lines rest : List Entry} {x : ℕ} {caller : Caller} → HasCome shared lines x rest caller → length caller.told.items ≤ length lines
 few_told {lines = lines} {rest = rest} {x = x} {caller = caller} c =
     let stands = caller.seat.view.stands in
     let all : length (entries_of stands) + length (lines_by x rest) ≡ length (lines_by x lines) = sym (length-append (entries_of stands) (lines_by x rest)) ∙ ap length c.entries in
-    let told : length stands ≡ length caller.replies.items = sym (length-map stands (λ (s : Stand). s.reply)) ∙ ap length c.replies_are in
+    let told : length stands ≡ length caller.told.items = sym (length-map stands (λ (s : Stand). s.reply)) ∙ ap length c.replies_are in
     omega (arith, all, told, length-map stands entry_of, few_by x lines)
 
 -- a line of another caller
@@ -92,15 +96,15 @@ module _ {shared : ObjectData} {lines rest : List Entry} {x : ℕ} {line : Entry
   can_call = record { ready = c.ready; there = c.there.0; may = turn.0; changes = omega (arith, many); removes = omega (arith, enough) }
 
   -- and its replies have room
-  pub has_room : length old.replies.items < vec_capacity old.replies
+  pub has_room : length old.told.items < vec_capacity old.told
   has_room =
       let all : length (entries_of old.seat.view.stands) + length (line ∷ lines_by x rest) ≡ length (lines_by x lines) =
       sym (length-append (entries_of old.seat.view.stands) (line ∷ lines_by x rest)) ∙ ap length (ap (λ l. entries_of old.seat.view.stands ++ l) (sym e) ∙ c.entries) in
-      let told : length old.seat.view.stands ≡ length old.replies.items = sym (length-map old.seat.view.stands (λ (s : Stand). s.reply)) ∙ ap length c.replies_are in
+      let told : length old.seat.view.stands ≡ length old.told.items = sym (length-map old.seat.view.stands (λ (s : Stand). s.reply)) ∙ ap length c.replies_are in
       omega (arith, c.room, all, told, length-map old.seat.view.stands entry_of)
 
-  module _ {reply : Reply} (new : Caller) (made : HasMade shared line.call reply old.seat new.seat) (told : new.replies.items ≡ old.replies.items ++ reply ∷ [])
-      (room : vec_capacity new.replies ≡ vec_capacity old.replies) where
+  module _ {reply : Reply} (new : Caller) (made : HasMade shared line.call reply old.seat new.seat) (told : new.told.items ≡ old.told.items ++ reply ∷ [])
+      (room : vec_capacity new.told ≡ vec_capacity old.told) where
     is_line : entry_of made.stand ≡ line
     is_line = made.entry ∙ (λ i. record { caller = (ap (λ l. slice_index l 0) c.numbers ∙ sym own) i; call = line.call })
 
@@ -111,7 +115,7 @@ module _ {shared : ObjectData} {lines rest : List Entry} {x : ℕ} {line : Entry
         ∙ (ap (λ (z : Entry). entries_of old.seat.view.stands ++ z ∷ lines_by x rest) is_line
         ∙ (ap (λ l. entries_of old.seat.view.stands ++ l) (sym e) ∙ c.entries))))
 
-    told_on : replies_of new.seat.view.stands ≡ new.replies.items
+    told_on : replies_of new.seat.view.stands ≡ new.told.items
     told_on = ap replies_of made.more
         ∙ (map-append (λ (s : Stand). s.reply) old.seat.view.stands (made.stand ∷ []) ∙ ((λ i. c.replies_are i ++ made.reply_is i ∷ []) ∙ sym told))
 
@@ -167,7 +171,7 @@ ended {shared} {lines} {x} {caller} c none = record {
 
 -- and where one is: it is released
 pub ended_held : {shared : ObjectData} {lines : List Entry} {x : ℕ} {old new : Caller} → HasCome shared lines x [] old → holds_record old.seat.view ≡ true
-    → HasMade shared Release Done old.seat new.seat → new.replies.items ≡ old.replies.items → HasRun shared lines x new
+    → HasMade shared Release Done old.seat new.seat → new.told.items ≡ old.told.items → HasRun shared lines x new
 ended_held {shared} {lines} {x} {old} {new} c held made told =
     let who : number old.seat.view ≡ x = ap (λ l. slice_index l 0) c.numbers in record {
       done = record { ours = made.ready.ours; law = made.ready.law; quiet = ready_quiet shared new.seat made.ready made.holds };

@@ -1,10 +1,10 @@
 -- All seats in one, and the object closed with it.
 use Rattle.std.proofs.Common.{◌≡◌, ◌∙◌, true, false, not, ◌&&◌, List, [], ◌∷◌, ◌++◌, All, append-nil, append_assoc, get_or, length, sym, ap, subst, arith}
 use Rattle.std.proofs.lemmas.Bool.{and_parts, both_ways, not-true}
-use Rattle.std.proofs.lemmas.List.Elements.{All-push}
+use Rattle.std.proofs.lemmas.List.Elements.{All-head, All-push, All-tail}
 use Rattle.big_atomic.proofs.Lines.{callers_below}
 use Rattle.big_atomic.proofs.Sharing.{quiet_ready, ready_quiet}
-use Rattle.big_atomic.specs.Seats.{all_numbers, all_stands}
+use Rattle.big_atomic.specs.Seats.{AreLed, all_numbers, all_stands}
 use Rattle.hazard_claims.specs.Scanning.{IsScan}
 use Rattle.seat_history.specs.declared.entry.Entry.{Entry}
 use Rattle.step_rules.proofs.Rely.Advance.{goes_further}
@@ -14,7 +14,8 @@ use Rattle.step_rules.specs.History.{GoesOn}
 use Rattle.step_rules.specs.SeatData.{IsOf, IsSeat, ObjectData, SeatData, all_zero, claim_words, holds_record, is_empty, is_quiet}
 use Rattle.step_rules.specs.Steps.{IsJoined}
 use Rattle.step_rules.specs.declared.view.Claim.{Claim}
-use Rattle.tally_core.specs.Workers.{HasClosed, HasGathered, IsDone}
+use Rattle.tally_core.specs.Workers.{AreDone, HasClosed, HasGathered, IsDone, seats_of}
+use Rattle.tally_core.specs.declared.worker.Worker.{Worker}
 
 -- the first seat alone
 pub gathered_one : {shared : ObjectData} {seat : SeatData} → IsDone shared seat → seat.first ≡ true → HasGathered shared (seat ∷ []) seat
@@ -52,6 +53,44 @@ gathered_more {shared} {seats} {old} {one} {new} g done joined law = record {
   seen = All-push (λ (s : SeatData). GoesOn s.view.seen new.view.seen) seats one
       (λ i d l. goes_further (get_or seats i d).view.seen old.view.seen new.view.seen joined.seen.0 (g.seen i d l) joined.seen.1) joined.seen_from;
 }
+
+-- the first worker's seat took in those of all workers but the ones that are left, each of which is quiet
+pub record HasTakenIn {T : Type 0} (shared : ObjectData) (seat : SeatData) (left all : List (Worker T)) : Type 0 where
+  pub taken : List SeatData
+  pub whole : taken ++ seats_of left ≡ seats_of all
+  pub gathered : HasGathered shared taken seat
+  pub left_done : AreDone shared left
+
+pub first_taken_in : {T : Type 0} {shared : ObjectData} (first : Worker T) (left all : List (Worker T)) → all ≡ first ∷ left → AreDone shared all → AreLed (seats_of all)
+    → HasTakenIn shared first.seat left all
+first_taken_in {T} {shared} first left all are done led =
+    let each : AreDone shared (first ∷ left) = subst (AreDone shared) are done in record {
+      taken = first.seat ∷ [];
+      whole = ap seats_of (sym are);
+      gathered = gathered_one (All-head (λ (one : Worker T). IsDone shared one.seat) first left each) (subst (λ (l : List (Worker T)). AreLed (seats_of l)) are led);
+      left_done = All-tail (λ (one : Worker T). IsDone shared one.seat) first left each;
+    }
+
+module _ {T : Type 0} {shared : ObjectData} {seat : SeatData} {left all : List (Worker T)} (so_far : HasTakenIn shared seat left all)
+    (next : Worker T) (rest : List (Worker T)) (is : left ≡ next ∷ rest) where
+  each : AreDone shared (next ∷ rest)
+  each = subst (AreDone shared) is so_far.left_done
+
+  pub next_done : IsDone shared next.seat
+  next_done = All-head (λ (one : Worker T). IsDone shared one.seat) next rest each
+
+  pub next_taken_in : {new : SeatData} → IsJoined seat next.seat new → IsSeat new → HasTakenIn shared new rest all
+  next_taken_in joined law = record {
+    taken = so_far.taken ++ next.seat ∷ [];
+    whole = append_assoc so_far.taken (next.seat ∷ []) (seats_of rest) ∙ (ap (λ (l : List (Worker T)). so_far.taken ++ seats_of l) (sym is) ∙ so_far.whole);
+    gathered = gathered_more so_far.gathered next_done joined law;
+    left_done = All-tail (λ (one : Worker T). IsDone shared one.seat) next rest each;
+  }
+
+-- at the end it has taken in all
+pub all_taken_in : {T : Type 0} {shared : ObjectData} {seat : SeatData} {left all : List (Worker T)} → HasTakenIn shared seat left all → left ≡ [] → HasGathered shared (seats_of all) seat
+all_taken_in {T} {shared} {seat} so_far none =
+    subst (λ (l : List SeatData). HasGathered shared l seat) (sym (append-nil so_far.taken) ∙ (ap (λ (l : List (Worker T)). so_far.taken ++ seats_of l) (sym none) ∙ so_far.whole)) so_far.gathered
 
 -- a quiet seat holds no record
 none_held : (seat : SeatData) → is_quiet seat ≡ true → holds_record seat.view ≡ false

@@ -3,6 +3,7 @@ pub mod AlongLine
 pub mod Attempts
 pub mod Begun
 pub mod ClosedFlows
+pub mod ClosedWorkers
 pub mod Coming
 pub mod Folding
 pub mod Gathered

@@ -8,8 +8,7 @@ use Rattle.seat_history.specs.Contents.{set_at}
 use Rattle.seat_history.specs.declared.entry.Entry.{Entry}
 use Rattle.seat_history.specs.declared.reply.Reply.{Reply}
 use Rattle.tally_core.proofs.Coming.{lines_own}
-use Rattle.tally_core.specs.Workers.{HasMerged, lines_by, replies_at}
-use Rattle.tally_core.specs.declared.callers.Caller.{Caller}
+use Rattle.tally_core.specs.Workers.{Caller, HasMerged, lines_by, replies_at}
 
 -- what is left of each caller's replies after one of this caller's
 abbrev pub told_after : (ℕ → List Reply) → ℕ → ℕ → List Reply
@@ -89,8 +88,8 @@ module _ (callers : List Caller) (next : List ℕ) (line : Entry) (rest : List E
   pub caller_there : line.caller < length callers
   caller_there = omega (
     arith,
-    first_there (map (λ (one : Caller). one.replies.items) callers) line.caller (omega (arith, turn_there)),
-    length-map callers (λ (one : Caller). one.replies.items),
+    first_there (map (λ (one : Caller). one.told.items) callers) line.caller (omega (arith, turn_there)),
+    length-map callers (λ (one : Caller). one.told.items),
   )
 
 -- one of this caller's is in the row

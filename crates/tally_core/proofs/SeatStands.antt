@@ -4,22 +4,19 @@ use Rattle.std.proofs.Common.{◌≡◌, ◌≢◌, ◌∙◌, ℕ, ◌+◌, ◌
 use Rattle.std.proofs.Common.{suc, zero, Bool, true, false, cond, eqb, eq-eqb, ne_eqb, All, List, append-nil, get_or, length, map, refl, sym, ap, subst, arith}
 use Rattle.std.proofs.lemmas.Bool.{eqb-true}
 use Rattle.std.proofs.lemmas.List.{get_or-map, length-map}
-use Rattle.std.proofs.lemmas.List.Elements.{filter-append}
+use Rattle.std.proofs.lemmas.List.Elements.{All-map, filter-append}
 use mathlib.Core.Option.{some}
 use lib.ListN.{get_elem?}
 use Rattle.big_atomic.proofs.SeatNumbers.{single}
-use Rattle.big_atomic.specs.Seats.{all_numbers, all_stands}
+use Rattle.big_atomic.specs.Seats.{Stays, all_numbers, all_stands}
 use Rattle.step_rules.specs.Line.{stands_by}
 use Rattle.step_rules.specs.SeatData.{IsSeat, SeatData}
 use Rattle.step_rules.specs.Views.{count_up, number}
 use Rattle.step_rules.specs.World.{has}
 use Rattle.step_rules.specs.declared.view.Stand.{Stand}
 
--- what holds of what a function makes of each item
-all_map : {A B : Type 0} (f : A → B) (P : B → Type 0) (items : List A) → ((i : ℕ) (d : A) → i < length items → P (f (get_or items i d))) → All P (map f items)
-all_map f P [] each i d l = absurd (omega (arith, l))
-all_map f P (x ∷ later) each zero d l = each zero x (omega arith)
-all_map f P (x ∷ later) each (suc i) d l = all_map f P later (λ j e b. each (suc j) e (omega (arith, b))) i d (omega (arith, l))
+pub stays_on : {before mid after : SeatData} → Stays before mid → Stays mid after → Stays before after
+stays_on p q = record { numbers = q.numbers ∙ p.numbers; first = q.first ∙ p.first }
 
 -- a lawful seat of one number
 pub record IsOne (seat : SeatData) : Type 0 where
@@ -112,7 +109,7 @@ module _ {A : Type 0} (seat_of : A → SeatData) (items : List A) (k : ℕ) (who
   pub items_numbered : ((i : ℕ) (d : A) → i < length items → length (seat_of (get_or items i d)).view.numbers ≡ 1)
       → (length items ≡ k) × ((i : ℕ) (d : A) → i < length items → number (seat_of (get_or items i d)).view ≡ i)
   items_numbered ones =
-      let row = numbered 0 k (map seat_of items) (all_map seat_of (λ (s : SeatData). length s.view.numbers ≡ 1) items ones) whole in (
+      let row = numbered 0 k (map seat_of items) (All-map (λ (s : SeatData). length s.view.numbers ≡ 1) seat_of items ones) whole in (
         omega (arith, row.0, long),
         λ i d l. ap (λ (s : SeatData). number s.view) (sym (get_or-map seat_of items i d (seat_of d) l)) ∙ (row.1 i (seat_of d) (omega (arith, l, long)) ∙ omega arith),
       )
@@ -121,7 +118,7 @@ module _ {A : Type 0} (seat_of : A → SeatData) (items : List A) (k : ℕ) (who
   pub items_stands : ((i : ℕ) (d : A) → i < length items → IsOne (seat_of (get_or items i d)))
       → (x : ℕ) (d : A) → x < length items → stands_by x (all_stands (map seat_of items)) ≡ (seat_of (get_or items x d)).view.stands
   items_stands ones x d l =
-      let all = all_map seat_of IsOne items ones in
+      let all = All-map IsOne seat_of items ones in
       let row = numbered 0 k (map seat_of items) (λ i e b. (all i e b).one) whole in
       let here : x ≡ 0 + x = omega arith in
       ap (λ n. stands_by n (all_stands (map seat_of items))) here

@@ -1,6 +1,6 @@
 -- What a closed object has that workers added pairs to.
-use Rattle.std.proofs.Common.{◌≡◌, ◌∙◌, ℕ, ◌+◌, ◌*◌, ◌-◌, ◌/◌, ◌^◌, cond, true, ◌<◌, ◌≤◌, ◌⊎◌, suc, zero, inl, inr, All, Bool, false, List}
-use Rattle.std.proofs.Common.{[], ◌∷◌, None, length, take, drop, map, refl, sym, subst, arith}
+use Rattle.std.proofs.Common.{◌≡◌, ◌∙◌, ℕ, ◌^◌, cond, true, ◌<◌, ◌≤◌, ◌⊎◌, inl, inr, All, Bool, false, List}
+use Rattle.std.proofs.Common.{[], None, length, take, map, refl, sym, subst, arith}
 use Rattle.std.specs.List.{AllByRecursion, AllZip}
 use Rattle.std.specs.Option.{option_map}
 use Rattle.std.specs.Prelude.{nat_lt}
@@ -24,16 +24,6 @@ use Rattle.tally_core.proofs.Folding.{flow_in}
 use Rattle.tally_core.proofs.Slices.{joined, joined_same, slices_join}
 use Rattle.tally_core.specs.Adding.{Adds, AreInRange, HasTallied, IsTallyCall, adding_in, flow_of, slice_of}
 
-pub range_take : (n : ℕ) (pairs : Flows) → AreInRange pairs → AreInRange (take n pairs)
-range_take zero pairs range = tt
-range_take (suc n) [] range = tt
-range_take (suc n) (pair ∷ pairs) range = (range.0, range_take n pairs range.1)
-
-range_drop : (n : ℕ) (pairs : Flows) → AreInRange pairs → AreInRange (drop n pairs)
-range_drop zero pairs range = range
-range_drop (suc n) [] range = tt
-range_drop (suc n) (pair ∷ pairs) range = range_drop n pairs range.1
-
 -- no value is there at the start
 blank_fold : IsFold [] (flow_in blank_object.contents.values)
 blank_fold = fold_none (flow_in blank_object.contents.values) (λ key. none (nat_lt key.k1 (2 ^ 64)))
@@ -42,7 +32,7 @@ blank_fold = fold_none (flow_in blank_object.contents.values) (λ key. none (nat
     none true = refl
     none false = refl
 
-module _ (workers : ℕ) (pairs : Flows) (full : ℕ → Bool) (closed : ClosedData) (range : AreInRange pairs) (tallied : HasTallied workers pairs full closed) where
+module _ (workers : ℕ) (pairs : Flows) (full : ℕ → Bool) (closed : ClosedData) (tallied : HasTallied workers pairs full closed) where
   -- the pairs that a worker added
   abbrev pub part : (w : ℕ) → (w < workers) ⊎ (workers ≤ w) → Flows
   part w (inl below) = take (tallied.added w below).count (slice_of workers w pairs)
@@ -51,12 +41,9 @@ module _ (workers : ℕ) (pairs : Flows) (full : ℕ → Bool) (closed : ClosedD
   abbrev pub parts : ℕ → Flows
   parts w = part w (cases_lt w workers)
 
-  slice_range : (w : ℕ) → AreInRange (slice_of workers w pairs)
-  slice_range w = range_take ((w + 1) * length pairs / workers - w * length pairs / workers) (drop (w * length pairs / workers) pairs) (range_drop (w * length pairs / workers) pairs range)
-
   part_added : (w : ℕ) (d : (w < workers) ⊎ (workers ≤ w)) → w < workers
       → AllZip Adds (part w d) (adding_in (stands_by w closed.stands)) × AreInRange (part w d) × AllByRecursion IsTallyCall (stands_by w closed.stands)
-  part_added w (inl lt) below = ((tallied.added w lt).added, range_take (tallied.added w lt).count (slice_of workers w pairs) (slice_range w), (tallied.added w lt).calls)
+  part_added w (inl lt) below = ((tallied.added w lt).added, (tallied.added w lt).in_range, (tallied.added w lt).calls)
   part_added w (inr le) below = absurd (omega arith)
 
   abbrev pub line : List Stand
@@ -77,21 +64,21 @@ module _ (workers : ℕ) (pairs : Flows) (full : ℕ → Bool) (closed : ClosedD
       subst (λ n. IsFold (joined n parts) (flow_in (state_at closed.history (length closed.history)).values)) tallied.workers_are
       (subst (λ (c : Contents). IsFold (joined closed.plan.seats parts) (flow_in c.values)) is.line.contents (fold_permutation up.more (joined closed.plan.seats parts) _ up.same up.fold))
 
-module _ (workers : ℕ) (pairs : Flows) (closed : ClosedData) (range : AreInRange pairs) (tallied : HasTallied workers pairs (λ _. false) closed) where
-  part_whole : (w : ℕ) (d : (w < workers) ⊎ (workers ≤ w)) → w < workers → part workers pairs (λ _. false) closed range tallied w d ≡ slice_of workers w pairs
+module _ (workers : ℕ) (pairs : Flows) (closed : ClosedData) (tallied : HasTallied workers pairs (λ _. false) closed) where
+  part_whole : (w : ℕ) (d : (w < workers) ⊎ (workers ≤ w)) → w < workers → part workers pairs (λ _. false) closed tallied w d ≡ slice_of workers w pairs
   part_whole w (inl lt) below = let all = (tallied.added w lt).all refl in take_all (tallied.added w lt).count (slice_of workers w pairs) (omega arith)
   part_whole w (inr le) below = absurd (omega arith)
 
-  parts_whole : 0 < workers → joined workers (parts workers pairs (λ _. false) closed range tallied) ≡ pairs
-  parts_whole some = joined_same workers (parts workers pairs (λ _. false) closed range tallied) (λ w. slice_of workers w pairs) (λ w l. part_whole w (cases_lt w workers) l)
+  parts_whole : 0 < workers → joined workers (parts workers pairs (λ _. false) closed tallied) ≡ pairs
+  parts_whole some = joined_same workers (parts workers pairs (λ _. false) closed tallied) (λ w. slice_of workers w pairs) (λ w l. part_whole w (cases_lt w workers) l)
       ∙ slices_join workers pairs some
 
 -- the closed object's pairs are the fold of all pairs, by rising key, where no worker was answered Full
-pub folded : (workers : ℕ) (pairs : Flows) (closed : ClosedData) (words_pairs : Pairs) → 0 < workers → AreInRange pairs → HasTallied workers pairs (λ _. false) closed
+pub folded : (workers : ℕ) (pairs : Flows) (closed : ClosedData) (words_pairs : Pairs) → 0 < workers → HasTallied workers pairs (λ _. false) closed
     → ArePairsOf (state_at closed.history (length closed.history)).values words_pairs → All IsPairInRange words_pairs
     → HasRisingKeys (map flow_of words_pairs) × IsFold pairs (value_in (map flow_of words_pairs))
-folded workers pairs closed words_pairs some range tallied are words_range =
+folded workers pairs closed words_pairs some tallied are words_range =
     let values = (state_at closed.history (length closed.history)).values in
-    let fold : IsFold pairs (flow_in values) = subst (λ (l : Flows). IsFold l (flow_in values)) (parts_whole workers pairs closed range tallied some)
-    (parts_fold workers pairs (λ _. false) closed range tallied) in
+    let fold : IsFold pairs (flow_in values) = subst (λ (l : Flows). IsFold l (flow_in values)) (parts_whole workers pairs closed tallied some)
+    (parts_fold workers pairs (λ _. false) closed tallied) in
     (flows_rise values words_pairs are words_range, fold_same pairs (flow_in values) (value_in (map flow_of words_pairs)) (flows_found values words_pairs are words_range) fold)

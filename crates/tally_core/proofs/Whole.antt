@@ -1,6 +1,6 @@
 -- The closed object has just the callers' lines.
 use Rattle.std.proofs.Common.{◌≡◌, ◌∙◌, ℕ, ◌<◌, ◌≤◌, ⊎_elim, [], ◌∷◌, ◌++◌}
-use Rattle.std.proofs.Common.{Bool, true, false, cond, All, List, append-nil, get_or, length, map, take, refl, sym, ap, subst, arith}
+use Rattle.std.proofs.Common.{Bool, true, false, cond, List, append-nil, get_or, length, map, take, refl, sym, ap, subst, arith}
 use Rattle.std.proofs.Math.Seq.{take-append_seam}
 use Rattle.std.proofs.Math.ListN.{get_or-eq_default}
 use Rattle.std.proofs.lemmas.Bool.{cases_lt}
@@ -18,29 +18,21 @@ use Rattle.seat_history.specs.declared.entry.Entry.{Entry}
 use Rattle.seat_history.specs.declared.reply.Reply.{Reply}
 use Rattle.seat_history.specs.declared.reply.Reply.TheVariants.{Done}
 use Rattle.step_rules.specs.Closing.{ClosedData}
-use Rattle.step_rules.specs.History.{GoesOn}
 use Rattle.step_rules.specs.Lawful.{entry_of}
 use Rattle.step_rules.specs.Line.{stands_by}
-use Rattle.step_rules.specs.SeatData.{ObjectData, SeatData}
-use Rattle.step_rules.specs.Views.{count_up, number}
+use Rattle.step_rules.specs.SeatData.{ObjectData}
+use Rattle.step_rules.specs.Views.{count_up}
 use Rattle.step_rules.specs.declared.plan.Plan.{Plan}
 use Rattle.step_rules.specs.declared.view.Stand.{Stand}
+use Rattle.tally_core.proofs.ClosedWorkers.{AreInRow, some_of, worker_at, worker_stands, worker_stocks, workers_long}
 use Rattle.tally_core.proofs.Coming.{lines_past}
-use Rattle.tally_core.proofs.SeatStands.{IsOne, items_numbered, items_stands}
-use Rattle.tally_core.proofs.StandStocks.{stocks_more}
 use Rattle.tally_core.specs.Driving.{HasDriven, last_release, leaves}
-use Rattle.tally_core.specs.Workers.{HasClosed, HasMerged, HasRun, HaveRun, IsDone, entries_of, lines_by, replies_at, replies_of, seats_of}
-use Rattle.tally_core.specs.declared.callers.Caller.{Caller}
-
--- each caller's seat is lawful, and has one number
-run_ones : {shared : ObjectData} {lines : List Entry} (callers : List Caller) → HaveRun shared lines callers → (i : ℕ) (d : Caller) → i < length callers → IsOne (get_or callers i d).seat
-run_ones callers run i d l = record { law = (run i d l).done.law; one = ap length (run i d l).numbers }
+use Rattle.tally_core.specs.Workers.{Caller, HasClosed, HasMerged, HasRun, HaveRun, entries_of, lines_by, replies_at, replies_of, seats_of}
 
 -- the callers stand by rising number
-numbered : {shared : ObjectData} {lines : List Entry} (callers : List Caller) → HaveRun shared lines callers → all_numbers (seats_of callers) ≡ count_up 0 shared.plan.seats
-    → (length callers ≡ shared.plan.seats) × ((i : ℕ) (d : Caller) → i < length callers → number (get_or callers i d).seat.view ≡ i)
-numbered {shared} {lines} callers run whole =
-    items_numbered (λ (one : Caller). one.seat) callers shared.plan.seats whole (λ i d l. (run_ones {shared = shared} {lines = lines} callers run i d l).one)
+callers_in_row : {shared : ObjectData} {lines : List Entry} (callers : List Caller) → HaveRun shared lines callers → all_numbers (seats_of callers) ≡ count_up 0 shared.plan.seats
+    → AreInRow (HasRun shared lines) callers shared.plan.seats
+callers_in_row callers run whole = record { each = run; ones = λ i d l. record { law = (run i d l).done.law; one = ap length (run i d l).numbers }; whole = whole }
 
 made_both : (stands : List Stand) → map made_of stands ≡ made_lines (entries_of stands) (replies_of stands)
 made_both [] = refl
@@ -68,56 +60,41 @@ lines_beyond callers object [] x may beyond = refl
 lines_beyond callers object (line ∷ lines) x may beyond =
     lines_past x line lines (λ e. beyond (subst (λ n. n < callers) e may.0.0)) ∙ lines_beyond callers (object_after object line) lines x may.2 beyond
 
-some_of : (callers : List Caller) → 0 < length callers → Caller
-some_of [] long = absurd (omega (arith, long))
-some_of (one ∷ later) long = one
-
 -- each caller has as many replies as lines
 pub all_told : {shared : ObjectData} {lines : List Entry} (callers : List Caller) → HaveRun shared lines callers → all_numbers (seats_of callers) ≡ count_up 0 shared.plan.seats
     → MayRun shared.plan.seats blank_object lines → (x : ℕ) → length (lines_by x lines) ≡ length (replies_at callers x)
 all_told {shared} {lines} callers run whole may x = ⊎_elim there beyond (cases_lt x (length callers))
   where
-    order : (length callers ≡ shared.plan.seats) × ((i : ℕ) (d : Caller) → i < length callers → number (get_or callers i d).seat.view ≡ i)
-    order = numbered {shared = shared} {lines = lines} callers run whole
+    in_row : AreInRow (HasRun shared lines) callers shared.plan.seats
+    in_row = callers_in_row callers run whole
 
     there : x < length callers → length (lines_by x lines) ≡ length (replies_at callers x)
     there l =
         let d = some_of callers (omega (arith, l)) in
         let one = get_or callers x d in
-        let ran : HasRun shared lines x one = subst (λ n. HasRun shared lines n one) (order.1 x d l) (run x d l) in
-        let told : replies_at callers x ≡ one.replies.items = get_or-map (λ (c : Caller). c.replies.items) callers x d [] l in
+        let ran = worker_at in_row x d l in
+        let told : replies_at callers x ≡ one.told.items = get_or-map (λ (c : Caller). c.told.items) callers x d [] l in
         sym (ap length ran.called.entries) ∙ (length-map ran.called.own entry_of
         ∙ (sym (length-map ran.called.own (λ (s : Stand). s.reply)) ∙ (ap length ran.called.replies_are ∙ sym (ap length told))))
 
     beyond : length callers ≤ x → length (lines_by x lines) ≡ length (replies_at callers x)
     beyond l =
-        ap length (lines_beyond shared.plan.seats blank_object lines x may (λ k. absurd (omega (arith, k, l, order.0))))
-        ∙ sym (ap length (get_or-eq_default (map (λ (c : Caller). c.replies.items) callers) [] (omega (arith, l, length-map callers (λ (c : Caller). c.replies.items)))))
-
--- all seats are done
-pub all_done : {shared : ObjectData} {lines : List Entry} (callers : List Caller) → HaveRun shared lines callers → All (λ (one : Caller). IsDone shared one.seat) callers
-all_done callers run i d l = (run i d l).done
+        ap length (lines_beyond shared.plan.seats blank_object lines x may (λ k. absurd (omega (arith, k, l, workers_long in_row))))
+        ∙ sym (ap length (get_or-eq_default (map (λ (c : Caller). c.told.items) callers) [] (omega (arith, l, length-map callers (λ (c : Caller). c.told.items)))))
 
 module _ {shared : ObjectData} {lines : List Entry} (callers : List Caller) {replies : List Reply} {closed : ClosedData} (run : HaveRun shared lines callers)
     (merged : HasMerged lines (replies_at callers) replies) (closes : HasClosed shared (seats_of callers) closed)
     (whole : all_numbers (seats_of callers) ≡ count_up 0 shared.plan.seats) where
-  long : length callers ≡ shared.plan.seats
-  long = (numbered {shared = shared} {lines = lines} callers run whole).0
-
-  named : (i : ℕ) (d : Caller) → i < length callers → number (get_or callers i d).seat.view ≡ i
-  named = (numbered {shared = shared} {lines = lines} callers run whole).1
+  in_row : AreInRow (HasRun shared lines) callers shared.plan.seats
+  in_row = callers_in_row callers run whole
 
   caller_at : (x : ℕ) (d : Caller) → x < length callers → IsCaller lines replies closed x
   caller_at x d l =
       let one = get_or callers x d in
-      let ran : HasRun shared lines x one = subst (λ n. HasRun shared lines n one) (named x d l) (run x d l) in
+      let ran = worker_at in_row x d l in
       let called = ran.called in
-      let stands : stands_by x closed.stands ≡ one.seat.view.stands = ap (stands_by x) closes.stands
-      ∙ items_stands (λ (z : Caller). z.seat) callers shared.plan.seats whole (run_ones {shared = shared} {lines = lines} callers run) x d l in
-      let told : replies_at callers x ≡ one.replies.items = get_or-map (λ (c : Caller). c.replies.items) callers x d [] l in
-      let goes : GoesOn one.seat.view.seen closed.history =
-      subst (λ (s : SeatData). GoesOn s.view.seen closed.history) (get_or-map (λ (c : Caller). c.seat) callers x d d.seat l)
-      (closes.seen x d.seat (omega (arith, l, length-map callers (λ (c : Caller). c.seat)))) in
+      let stands = worker_stands in_row closes x d l in
+      let told : replies_at callers x ≡ one.told.items = get_or-map (λ (c : Caller). c.told.items) callers x d [] l in
       record {
         own = called.own;
         last = called.last;
@@ -125,9 +102,7 @@ module _ {shared : ObjectData} {lines : List Entry} (callers : List Caller) {rep
         made = made_both called.own ∙ ((λ i. made_lines (called.entries i) ((called.replies_are ∙ sym told) i)) ∙ sym (merged.each x));
         ending = called.ending;
         long = sym (length-map called.own entry_of) ∙ ap length called.entries;
-        stocks = subst (StocksAre closed.plan closed.history) (sym stands)
-            (subst (λ (p : Plan). StocksAre p closed.history one.seat.view.stands) (sym closes.plan_is)
-            (stocks_more shared.plan one.seat.view.seen closed.history one.seat.view.stands (λ i s at. (ran.done.law.sound.lawful.right i s at).place) goes ran.stocks));
+        stocks = worker_stocks in_row closes x d l ran.stocks;
       }
 
   abbrev own_stands : ℕ → List Stand
@@ -138,7 +113,7 @@ module _ {shared : ObjectData} {lines : List Entry} (callers : List Caller) {rep
 
   caller_of : (x : ℕ) → x < closed.plan.seats → IsCaller lines replies closed x
   caller_of x l =
-      let within : x < length callers = omega (arith, l, long, ap (λ (p : Plan). p.seats) closes.plan_is) in
+      let within : x < length callers = omega (arith, l, workers_long in_row, ap (λ (p : Plan). p.seats) closes.plan_is) in
       caller_at x (some_of callers (omega (arith, within))) within
 
   has_called : HasCalled closed (leaves lines) own_stands lines replies

@@ -32,9 +32,13 @@ pub record IsValueInRange (value : Value) : Type 0 where
   pub first : value.first < 2 ^ 32
   pub last : value.last < 2 ^ 32
 
--- the words of all keys and values have their widths
+-- the words of a key and the parts of its value have their widths
+abbrev pub IsInRange : Key × Value → Type 0
+IsInRange pair = IsKey (key_words pair.0) × IsValueInRange pair.1
+
+-- those of all pairs have
 abbrev pub AreInRange : Flows → Type 0
-AreInRange pairs = AllByRecursion (λ pair. IsKey (key_words pair.0) × IsValueInRange pair.1) pairs
+AreInRange pairs = AllByRecursion IsInRange pairs
 
 -- a pair of the table as a key with its value
 abbrev pub flow_of : KeyWords × List ℕ → Key × Value
@@ -44,11 +48,14 @@ flow_of pair = (record { k0 = pair.0.k0; k1 = pair.0.k1 }, value_of_words pair.1
 abbrev pub AreOfValue : List ℕ → Type 0
 AreOfValue words = (value : Value) × IsValueInRange value × (words ≡ words_of value)
 
+-- the old words are some value's, and the new ones are that value's with this one merged into it
+abbrev pub Merges : Value → List ℕ → List ℕ → Type 0
+Merges value old new = (known : Value) × IsValueInRange known × (old ≡ words_of known) × (new ≡ words_of (merge_of known value))
+
 -- the call with this reply adds the pair: it inserts it, or replaces some value of its key by that value with the pair's merged into it
 abbrev pub AddsBy : Key × Value → Call → Reply → Type 0
 AddsBy pair (Insert key val) Done = (key ≡ key_words pair.0) × (val ≡ words_of pair.1)
-AddsBy pair (Replace key old new) Yes = (key ≡ key_words pair.0)
-    × ((value : Value) × IsValueInRange value × (old ≡ words_of value) × (new ≡ words_of (merge_of value pair.1)))
+AddsBy pair (Replace key old new) Yes = (key ≡ key_words pair.0) × Merges pair.1 old new
 AddsBy pair _ _ = ⊥
 
 -- the stand adds the pair
@@ -106,6 +113,7 @@ pub record HasAdded (pairs : Flows) (full : Bool) (stands : List Stand) : Type 0
   pub count : ℕ
   pub within : count ≤ length pairs
   pub added : AllZip Adds (take count pairs) (adding_in stands)
+  pub in_range : AreInRange (take count pairs)
   pub calls : AllByRecursion IsTallyCall stands
   pub all : full ≡ false → count ≡ length pairs
   pub last : full ≡ true → (s : Stand) × (before : List Stand) × (stands ≡ before ++ s ∷ []) × (is_full s.reply ≡ true)

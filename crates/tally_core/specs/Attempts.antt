@@ -11,7 +11,7 @@ use Rattle.seat_history.specs.declared.key.KeyWords.{KeyWords}
 use Rattle.step_rules.specs.Lawful.{is_full}
 use Rattle.step_rules.specs.SeatData.{ObjectData, SeatData, holds_record}
 use Rattle.step_rules.specs.declared.view.Stand.{Stand}
-use Rattle.tally_core.specs.Adding.{Adds, HasAdded, IsTallyCall, adding_in, key_words}
+use Rattle.tally_core.specs.Adding.{Adds, AreInRange, HasAdded, IsTallyCall, adding_in, key_words}
 use Rattle.tally_core.specs.Workers.{IsDone}
 use Rattle.tally_core.specs.declared.adding.Try.{Try}
 use Rattle.tally_core.specs.declared.adding.Try.TheVariants.{Added, Again, Full}
@@ -36,6 +36,7 @@ pub record IsAdding (shared : ObjectData) (added : Flows) (seat : SeatData) : Ty
   pub one : length seat.view.numbers ≡ 1
   pub none_held : holds_record seat.view ≡ false
   pub adds : AllZip Adds added (adding_in seat.view.stands)
+  pub in_range : AreInRange added
   pub calls : AllByRecursion IsTallyCall seat.view.stands
   pub stocks : StocksAre shared.plan seat.view.seen seat.view.stands
   pub left : shared.plan.changes ≤ seat.view.changes + length added

@@ -1,6 +1,7 @@
--- A caller's worker, from its first line to its last.
-use Rattle.std.specs.Prelude.{◌≡◌, ℕ, ◌<◌, ◌≤◌, ◌==◌, true, All, List, [], ◌∷◌, ◌++◌, filter, length, map, slice_index_or, vec_capacity}
+-- Workers, and a caller's from its first line to its last.
+use Rattle.std.specs.Prelude.{◌≡◌, ℕ, ◌<◌, ◌≤◌, ◌==◌, true, All, List, [], ◌∷◌, ◌++◌, filter, length, map, slice_index_or, Vec, vec_capacity}
 use Rattle.std.specs.List.{AllByRecursion, sum_by}
+use Rattle.std.specs.declared.alloc.Global.{Global}
 use Rattle.big_atomic.specs.Ready.{IsReady}
 use Rattle.big_atomic.specs.Seats.{AreLed, IsUnused, all_numbers, all_stands}
 use Rattle.call_script.specs.Holding.{MayTurn, calls_by, holds_from}
@@ -19,7 +20,15 @@ use Rattle.step_rules.specs.Views.{count_up, number}
 use Rattle.step_rules.specs.declared.plan.Plan.{Plan}
 use Rattle.step_rules.specs.declared.view.Stand.{Stand}
 use Rattle.tally_core.specs.Driving.{last_release, leaves}
-use Rattle.tally_core.specs.declared.callers.Caller.{Caller}
+use Rattle.tally_core.specs.declared.worker.Worker.{Worker}
+
+-- a caller's seat, and the replies to its lines
+abbrev pub Caller : Type 0
+Caller = Worker (Vec Reply Global)
+
+-- the workers' seats
+abbrev pub seats_of : {T : Type 0} → List (Worker T) → List SeatData
+seats_of workers = map (λ one. one.seat) workers
 
 -- the replies that stands have
 abbrev pub replies_of : List Stand → List Reply
@@ -42,8 +51,8 @@ pub record HasCome (shared : ObjectData) (lines : List Entry) (x : ℕ) (rest : 
   pub ready : IsReady shared caller.seat
   pub numbers : caller.seat.view.numbers ≡ x ∷ []
   pub entries : entries_of caller.seat.view.stands ++ lines_by x rest ≡ lines_by x lines
-  pub replies_are : replies_of caller.seat.view.stands ≡ caller.replies.items
-  pub room : length (lines_by x lines) ≤ vec_capacity caller.replies
+  pub replies_are : replies_of caller.seat.view.stands ≡ caller.told.items
+  pub room : length (lines_by x lines) ≤ vec_capacity caller.told
   pub stocks : StocksAre shared.plan caller.seat.view.seen caller.seat.view.stands
   pub changes : length (lines_by x rest) ≤ caller.seat.view.changes
   pub removes : removes_in (lines_by x rest) ≤ caller.seat.view.removes
@@ -66,11 +75,15 @@ pub record IsDone (shared : ObjectData) (seat : SeatData) : Type 0 where
   pub law : IsSeat seat
   pub quiet : is_quiet seat ≡ true
 
+-- each worker's seat is one
+abbrev pub AreDone : {T : Type 0} → ObjectData → List (Worker T) → Type 0
+AreDone shared workers = All (λ one. IsDone shared one.seat) workers
+
 -- all lines of the caller x were called, and its seat is quiet
 pub record HasRun (shared : ObjectData) (lines : List Entry) (x : ℕ) (caller : Caller) : Type 0 where
   pub done : IsDone shared caller.seat
   pub numbers : caller.seat.view.numbers ≡ x ∷ []
-  pub called : AreCalled lines x caller.replies.items caller.seat.view.stands
+  pub called : AreCalled lines x caller.told.items caller.seat.view.stands
   pub stocks : StocksAre shared.plan caller.seat.view.seen caller.seat.view.stands
 
 -- each caller's lines are still to be called
@@ -80,15 +93,6 @@ HaveCome shared lines callers = All (λ (one : Caller). HasCome shared lines (nu
 -- each caller's lines were called
 abbrev pub HaveRun : ObjectData → List Entry → List Caller → Type 0
 HaveRun shared lines callers = All (λ (one : Caller). HasRun shared lines (number one.seat.view) one) callers
-
--- a seat keeps its numbers, and whether it takes in others
-pub record Stays (before after : SeatData) : Type 0 where
-  pub numbers : after.view.numbers ≡ before.view.numbers
-  pub first : after.first ≡ before.first
-
--- the callers' seats
-abbrev pub seats_of : List Caller → List SeatData
-seats_of callers = map (λ (caller : Caller). caller.seat) callers
 
 -- the plan is one for these lines: each may be called in turn, and there are as many changes as lines, and as many removes as lines that remove
 pub record IsFor (lines : List Entry) (p : Plan) : Type 0 where
@@ -101,8 +105,8 @@ pub record IsFor (lines : List Entry) (p : Plan) : Type 0 where
 
 -- no reply is there yet, and there is room for those to all lines of the caller
 pub record HasRoom (lines : List Entry) (one : Caller) : Type 0 where
-  pub none : one.replies.items ≡ []
-  pub room : length (lines_by (number one.seat.view) lines) ≤ vec_capacity one.replies
+  pub none : one.told.items ≡ []
+  pub room : length (lines_by (number one.seat.view) lines) ≤ vec_capacity one.told
 
 -- an object of the plan, and a seat for each of its numbers, the first of which takes in the others
 pub record HasSeats (p : Plan) (shared : ObjectData) (seats : List SeatData) : Type 0 where
@@ -137,7 +141,7 @@ pub record HasClosed (shared : ObjectData) (seats : List SeatData) (closed : Clo
 
 -- the replies of the caller at this place
 abbrev pub replies_at : List Caller → ℕ → List Reply
-replies_at callers x = slice_index_or (map (λ (one : Caller). one.replies.items) callers) x []
+replies_at callers x = slice_index_or (map (λ (one : Caller). one.told.items) callers) x []
 
 -- all callers' replies in the order of the lines
 pub record HasMerged (lines : List Entry) (told : ℕ → List Reply) (replies : List Reply) : Type 0 where

@@ -3,21 +3,15 @@ ghost use Rattle.std.specs.Prelude.{◌≡◌, ◌+◌, ◌*◌, ◌/◌, ◌<�
 ghost use Rattle.big_atomic.specs.Seats.{IsUnused, Stays};
 ghost use Rattle.flow_fold.specs.Flows.{Flows};
 ghost use Rattle.step_rules.specs.Views.{number};
-ghost use Rattle.tally_core.specs.Adding.{key_words, slice_of};
+ghost use Rattle.tally_core.specs.Adding.{AreOfValue, Merges, key_words, slice_of};
 ghost use Rattle.tally_core.specs.Attempts.{HasAddedOne, HasTried, HasWorked, IsAdding, IsTrying};
 
+use crate::worker::Adder;
 use big_atomic::{Seat, Shared};
 use cache_hash::{Insert, Replace, find, insert, replace};
 use flow_fold::{Key, Value, merge};
 use seat_history::{KeyWords, ValWords};
 use worker_gate::Gate;
-
-/// A worker's seat, and whether a call of it was answered Full.
-#[derive(Drop)]
-pub(crate) struct Adder {
-    pub(crate) seat: Seat,
-    pub(crate) full: bool,
-}
 
 /// What comes of one call for a pair.
 #[derive(Drop)]
@@ -44,14 +38,14 @@ pub(crate) fn add_slice<G: Gate>(
     requires number { number seat.view < workers }
     requires few { length pairs.now ≤ 2 ^ 23 }
     requires changes { length pairs.now ≤ shared.now.plan.changes }
-    ensures worked { HasWorked shared.now (slice_of workers (number result.seat.view) pairs.now) result.full result.seat }
+    ensures worked { HasWorked shared.now (slice_of workers (number result.seat.view) pairs.now) result.told result.seat }
     ensures stays { Stays seat result.seat }
 {
     let mut seat = seat;
     let number = seat.number();
     gate.pass(number, 0);
     let added = add_pairs(shared, &mut seat, slice(pairs, workers, number));
-    Adder { seat, full: !added }
+    Adder { seat, told: !added }
 }
 
 // The pairs of the worker with this number.
@@ -148,11 +142,20 @@ fn try_replace(shared: &Shared, seat: &mut Seat, key: Key, value: Value, old: Va
         → HasTried shared.now added (key, value) result seat.old seat.new }
     ensures stays { Stays seat.old seat.new }
 {
-    let merged = merge(Value::of_words(old), value);
-    match replace(shared, seat, words_of_key(key), old, merged.words()) {
+    let merged = merge_words(old, value);
+    match replace(shared, seat, words_of_key(key), old, merged) {
         Replace::Yes => Try::Added,
         Replace::Found(there) => Try::Again { there: Some(there) },
         Replace::Absent => Try::Again { there: None },
         Replace::Full { .. } => Try::Full,
     }
+}
+
+// The words of the value that has these words, with another merged into it.
+fn merge_words(old: ValWords, value: Value) -> ValWords
+    ensures merges { Merges value old result }
+    ensures of_value { AreOfValue result }
+{
+    let merged = merge(Value::of_words(old), value);
+    merged.words()
 }

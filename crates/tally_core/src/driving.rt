@@ -1,20 +1,20 @@
 //! A script, with a worker for each caller.
-ghost use Rattle.std.specs.Prelude.{◌≡◌, ◌≤◌, All, IfOk, length};
-ghost use Rattle.big_atomic.specs.Seats.{AreLed, all_numbers};
+ghost use Rattle.std.specs.Prelude.{◌≡◌, ◌≤◌, IfOk, length};
+ghost use Rattle.big_atomic.specs.Seats.{AreBack, Stays};
 ghost use Rattle.call_script.specs.Line.{MayHaveCallers};
 ghost use Rattle.call_script.specs.Run.{plan_of};
 ghost use Rattle.call_script.specs.Script.{MayRun};
 ghost use Rattle.seat_history.specs.Object.{blank_object};
 ghost use Rattle.step_rules.specs.Views.{number};
 ghost use Rattle.tally_core.specs.Driving.{HasDriven};
-ghost use Rattle.tally_core.specs.Workers.{HasCome, HasRun, HaveCome, HaveRun, Stays, seats_of};
+ghost use Rattle.tally_core.specs.Workers.{HasCome, HasRun, HaveCome, HaveRun, seats_of};
 
-use crate::callers::Caller;
+use crate::calling::call_lines;
 use crate::closing::{close_all, contents_of};
 use crate::merging::merge_replies;
 use crate::opening::{open, plan_for};
 use crate::ran::Ran;
-use crate::worker::call_lines;
+use crate::worker::Caller;
 use big_atomic::{NoMemory, Shared};
 use call_script::{Line, Script};
 use std::alloc::{AllocError, Global};
@@ -59,10 +59,8 @@ fn call_all<R: Threads + Sync, G: Gate>(
 ) -> Result<Vec<Caller>, AllocError>
     requires come { HaveCome shared.now lines.now callers.items }
     requires few { length lines.now ≤ 65536 }
-    requires led { AreLed (seats_of callers.items) }
     ensures run { IfOk result (λ all. HaveRun shared.now lines.now all.items) }
-    ensures numbers { IfOk result (λ all. all_numbers (seats_of all.items) ≡ all_numbers (seats_of callers.items)) }
-    ensures led { IfOk result (λ all. AreLed (seats_of all.items)) }
+    ensures back { IfOk result (λ all. AreBack (seats_of callers.items) (seats_of all.items)) }
 {
     let job = |caller: Caller| -> Caller
         requires come { HasCome shared.now lines.now (number caller.seat.view) lines.now caller }

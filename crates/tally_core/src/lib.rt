@@ -3,7 +3,7 @@
 #![tactic(auto)]
 
 mod adding;
-mod callers;
+mod calling;
 mod calls;
 mod closing;
 mod driving;

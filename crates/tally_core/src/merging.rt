@@ -2,7 +2,7 @@
 ghost use Rattle.std.specs.Prelude.{◌≡◌, IfOk, ℕ, length};
 ghost use Rattle.tally_core.specs.Workers.{HasMerged, lines_by, replies_at};
 
-use crate::callers::Caller;
+use crate::worker::Caller;
 use call_script::Line;
 use seat_history::Reply;
 use std::alloc::{AllocError, Global};
@@ -22,7 +22,7 @@ pub(crate) fn merge_replies(
     for line in lines {
         let caller = line.caller as usize;
         let turn = next[caller];
-        replies.push(callers[caller].replies[turn])?;
+        replies.push(callers[caller].told[turn])?;
         next[caller] = turn + 1;
     }
     Ok(replies)

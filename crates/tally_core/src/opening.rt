@@ -5,7 +5,7 @@ ghost use Rattle.step_rules.specs.Layout.{IsPlan, nodes};
 ghost use Rattle.step_rules.specs.Records.{removes_of};
 ghost use Rattle.tally_core.specs.Workers.{HasOpened, HasRoom, HasSeats, IsFor, lines_by, removes_in, seats_of};
 
-use crate::callers::Caller;
+use crate::worker::Caller;
 use big_atomic::{Building, NoMemory, Plan, Seat, Shared, build, split_all};
 use call_script::{Line, REGISTERS, Script};
 use seat_history::Call;
@@ -88,8 +88,8 @@ fn seat_callers(alloc: Global, seats: Vec<Seat>, lines: &[Line]) -> Result<Vec<C
     let mut callers = Vec::with_capacity(alloc, seats.len())?;
     for seat in seats {
         let count = count_lines(lines, seat.number());
-        let replies = Vec::with_capacity(alloc, count)?;
-        callers.push(Caller { seat, replies })?;
+        let told = Vec::with_capacity(alloc, count)?;
+        callers.push(Caller { seat, told })?;
     }
     Ok(callers)
 }

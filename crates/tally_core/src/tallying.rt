@@ -1,19 +1,18 @@
 //! Pairs added up on a shared object, by a worker for each part of them.
-ghost use Rattle.std.specs.Prelude.{◌≡◌, ◌+◌, ◌*◌, ◌<◌, ◌≤◌, ◌^◌, All, Err, IfOk, [], false, length, map, true, ℕ};
-ghost use Rattle.big_atomic.specs.Seats.{AreLed, IsUnused, Stays, all_numbers};
-ghost use Rattle.step_rules.specs.History.{IsKey};
+ghost use Rattle.std.specs.Prelude.{◌≡◌, ◌+◌, ◌*◌, ◌<◌, ◌≤◌, ◌^◌, All, Err, IfOk, [], false, length, true, ℕ};
+ghost use Rattle.big_atomic.specs.Seats.{AreBack, IsUnused, Stays};
 ghost use Rattle.step_rules.specs.SeatData.{SeatData};
-ghost use Rattle.step_rules.specs.Views.{count_up, number};
-ghost use Rattle.tally_core.specs.Adding.{AreInRange, HasMoreKeys, IsTallied, IsValueInRange, key_words, plan_of_tally, slice_of};
+ghost use Rattle.step_rules.specs.Views.{number};
+ghost use Rattle.tally_core.specs.Adding.{HasMoreKeys, IsTallied, plan_of_tally, slice_of};
 ghost use Rattle.tally_core.specs.Attempts.{HasWorked};
-ghost use Rattle.tally_core.specs.Tallying.{HasFlows, HaveWorked, IsFullAt, TalliesTo, adder_seats, full_at};
-ghost use Rattle.tally_core.specs.Workers.{HasClosed, HasGathered, IsDone};
-ghost use Rattle.tally_core.specs.declared.adding.Adder.{Adder};
+ghost use Rattle.tally_core.specs.Tallying.{HasAddedUp, HasFlows, HaveWorked, IsFullAt, TalliesTo, full_at};
+ghost use Rattle.tally_core.specs.Workers.{seats_of};
 ghost use Rattle.tally_core.specs.declared.tallying.TallyEnd.TheVariants.{TooManyFlows};
 
-use crate::adding::{Adder, add_slice};
-use crate::closing::close_gathered;
+use crate::adding::add_slice;
+use crate::closing::close_all;
 use crate::opening::open_seats;
+use crate::worker::Adder;
 use big_atomic::{Closed, NoMemory, Plan, Seat, Shared};
 use flow_fold::{FlowList, Key, Value};
 use std::alloc::{AllocError, Global};
@@ -79,12 +78,7 @@ fn add_up<R: Threads + Sync, G: Gate>(
     requires few { length pairs.now ≤ 2 ^ 23 }
     ensures { IfOk result (TalliesTo pairs.now workers flows buckets) }
 {
-    show_ranges(pairs);
-    let plan = tally_plan(pairs, workers, flows, buckets);
-    let (shared, seats) = open_seats(alloc, &plan)?;
-    let adders = add_all(rt, &shared, seats, pairs, workers, gate)?;
-    let full = is_any_full(&adders);
-    let closed = close_adders(shared, adders);
+    let (closed, full) = add_on_object(rt, alloc, pairs, workers, flows, buckets, gate)?;
     if full {
         return Ok(None);
     }
@@ -98,21 +92,30 @@ fn add_up<R: Threads + Sync, G: Gate>(
     }))
 }
 
-// The numbers of all pairs have their types' widths.
-fn show_ranges(pairs: &[(Key, Value)])
-    ensures { AreInRange pairs.now }
+// Adds the pairs on an object, which is closed then. Besides, whether a worker was answered Full.
+fn add_on_object<R: Threads + Sync, G: Gate>(
+    rt: &R,
+    alloc: Global,
+    pairs: &[(Key, Value)],
+    workers: u32,
+    flows: u32,
+    buckets: u32,
+    gate: &G,
+) -> Result<(Closed, bool), NoMemory>
+    requires workers { (1 ≤ workers) × (workers ≤ 64) }
+    requires flows { (1 ≤ flows) × (flows ≤ 1048576) }
+    requires buckets { (1 ≤ buckets) × (buckets ≤ 1048576) }
+    requires fits { workers * (2 * flows + 4 * workers + 1) + buckets ≤ 2 ^ 24 }
+    requires few { length pairs.now ≤ 2 ^ 23 }
+    ensures added { IfOk result (λ made. HasAddedUp workers flows buckets pairs.now made.0 made.1) }
 {
-    for i in 0..pairs.len() {
-        let (key, value) = pairs[i];
-        show_range(key, value);
-    }
+    let plan = tally_plan(pairs, workers, flows, buckets);
+    let (shared, seats) = open_seats(alloc, &plan)?;
+    let adders = add_all(rt, &shared, seats, pairs, workers, gate)?;
+    let full = is_any_full(&adders);
+    let closed = close_all(shared, adders);
+    Ok((closed, full))
 }
-
-// The numbers of a pair have their types' widths.
-fn show_range(key: Key, value: Value)
-    ensures key { IsKey (key_words key) }
-    ensures value { IsValueInRange value }
-{}
 
 // The plan of the pairs' object.
 fn tally_plan(pairs: &[(Key, Value)], workers: u32, flows: u32, buckets: u32) -> Plan
@@ -141,13 +144,11 @@ fn add_all<R: Threads + Sync, G: Gate>(
 ) -> Result<Vec<Adder>, AllocError>
     requires unused { All (IsUnused shared.now) seats.items }
     requires numbers { All (λ (seat : SeatData). number seat.view < workers) seats.items }
-    requires led { AreLed seats.items }
     requires some { 0 < shared.now.plan.buckets }
     requires few { length pairs.now ≤ 2 ^ 23 }
     requires changes { length pairs.now ≤ shared.now.plan.changes }
     ensures worked { IfOk result (λ all. HaveWorked shared.now workers pairs.now all.items) }
-    ensures numbers { IfOk result (λ all. all_numbers (adder_seats all.items) ≡ all_numbers seats.items) }
-    ensures led { IfOk result (λ all. AreLed (adder_seats all.items)) }
+    ensures back { IfOk result (λ all. AreBack seats.items (seats_of all.items)) }
 {
     let job = |seat: Seat| -> Adder
         requires unused { IsUnused shared.now seat }
@@ -155,7 +156,7 @@ fn add_all<R: Threads + Sync, G: Gate>(
         requires some { 0 < shared.now.plan.buckets }
         requires few { length pairs.now ≤ 2 ^ 23 }
         requires changes { length pairs.now ≤ shared.now.plan.changes }
-        ensures worked { HasWorked shared.entry.now (slice_of workers (number result.seat.view) pairs.entry.now) result.full result.seat }
+        ensures worked { HasWorked shared.entry.now (slice_of workers (number result.seat.view) pairs.entry.now) result.told result.seat }
         ensures stays { Stays seat result.seat }
     { add_slice(shared, seat, pairs, workers, gate) };
     thread::map_vec(rt, seats, &job)
@@ -167,47 +168,11 @@ fn is_any_full(adders: &[Adder]) -> bool
     ensures none { result ≡ false → (w : ℕ) → full_at adders.now w ≡ false }
 {
     for i in 0..adders.len() {
-        if adders[i].full {
+        if adders[i].told {
             return true;
         }
     }
     false
-}
-
-// Closes the object with all workers' seats.
-fn close_adders(shared: Shared, adders: Vec<Adder>) -> Closed
-    requires done { All (λ (one : Adder). IsDone shared one.seat) adders.items }
-    requires led { AreLed (adder_seats adders.items) }
-    requires whole { all_numbers (adder_seats adders.items) ≡ count_up 0 shared.plan.seats }
-    ensures closed { HasClosed shared (adder_seats adders.items) result }
-{
-    let seat = gather_adders(&shared, adders);
-    close_gathered(shared, seat)
-}
-
-// Takes all other seats into the first one.
-fn gather_adders(shared: &Shared, adders: Vec<Adder>) -> Seat
-    requires done { All (λ (one : Adder). IsDone shared.now one.seat) adders.items }
-    requires led { AreLed (adder_seats adders.items) }
-    ensures gathered { HasGathered shared.now (adder_seats adders.items) result }
-{
-    let mut adders = adders.into_iter();
-    let Some(first) = adders.next() else {
-        unreachable!()
-    };
-    let mut seat = seat_of_adder(first);
-    for other in adders {
-        shared.join(&mut seat, seat_of_adder(other));
-    }
-    seat
-}
-
-// A worker's seat.
-fn seat_of_adder(adder: Adder) -> Seat
-    ensures { result ≡ adder.seat }
-{
-    let Adder { seat, full: _full } = adder;
-    seat
 }
 
 // The pairs of the closed object, as flows.

@@ -1,59 +1,15 @@
-//! What a caller's worker does, in its own thread.
-ghost use Rattle.std.specs.Prelude.{◌≡◌, ◌≤◌, ◌∷◌, [], List, ℕ, length};
-ghost use Rattle.seat_history.specs.declared.entry.Entry.{Entry};
-ghost use Rattle.step_rules.specs.Views.{number};
-ghost use Rattle.tally_core.specs.Workers.{HasCome, HasRun, Stays};
+use big_atomic::Seat;
+use seat_history::Reply;
 
-use crate::callers::Caller;
-use crate::calls::make_call;
-use big_atomic::{Shared, release_hold};
-use call_script::Line;
-use worker_gate::Gate;
-
-/// Makes the calls of the caller's lines in turn, and releases a record that it holds then. It passes
-/// the gate before each. No memory is taken: the replies have their room.
-pub(crate) fn call_lines<G: Gate>(
-    shared: &Shared,
-    caller: Caller,
-    lines: &[Line],
-    gate: &G,
-) -> Caller
-    requires come { HasCome shared.now lines.now (number caller.seat.view) lines.now caller }
-    requires few { length lines.now ≤ 65536 }
-    ensures run { HasRun shared.now lines.now (number result.seat.view) result }
-    ensures stays { Stays caller.seat result.seat }
-{
-    let mut caller = caller;
-    for line in lines {
-        call_line(shared, &mut caller, line, gate);
-    }
-    end_hold(shared, &mut caller);
-    caller
+/// What a worker's thread gives back: its seat, and what the worker tells.
+#[derive(Drop)]
+pub(crate) struct Worker<T> {
+    pub(crate) seat: Seat,
+    pub(crate) told: T,
 }
 
-// Makes the call of a line where it is the caller's.
-fn call_line<G: Gate>(shared: &Shared, caller: &mut Caller, line: &Line, gate: &G)
-    requires come { (lines : List Entry) × (x : ℕ) × (rest : List Entry) × HasCome shared.now lines x (line.now ∷ rest) caller.old × (length lines ≤ 65536) }
-    ensures come { (lines : List Entry) (x : ℕ) (rest : List Entry) → HasCome shared.now lines x (line.now ∷ rest) caller.old → HasCome shared.now lines x rest caller.new }
-    ensures stays { Stays caller.old.seat caller.new.seat }
-{
-    let number = caller.seat.number();
-    if line.caller != number {
-        return;
-    }
-    let turn = caller.replies.len() as u32;
-    gate.pass(number, turn);
-    let reply = make_call(shared, &mut caller.seat, line.call);
-    caller.replies.push_reserved(reply);
-}
+/// A caller of a script tells the replies to its lines, in order.
+pub(crate) type Caller = Worker<Vec<Reply>>;
 
-// Releases the record that the caller's lines left held, if any.
-fn end_hold(shared: &Shared, caller: &mut Caller)
-    requires come { (lines : List Entry) × (x : ℕ) × HasCome shared.now lines x [] caller.old }
-    ensures run { (lines : List Entry) (x : ℕ) → HasCome shared.now lines x [] caller.old → HasRun shared.now lines x caller.new }
-    ensures stays { Stays caller.old.seat caller.new.seat }
-{
-    if caller.seat.holds_record() {
-        release_hold(shared, &mut caller.seat);
-    }
-}
+/// A worker of a tally tells whether a call of it was answered Full.
+pub(crate) type Adder = Worker<bool>;

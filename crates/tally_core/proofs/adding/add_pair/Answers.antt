@@ -1,5 +1,6 @@
-use Rattle.std.proofs.Common.{◌∙◌, subst}
+use Rattle.std.proofs.Common.{subst}
 use Rattle.tally_core.proofs.Attempts.{found}
+use Rattle.tally_core.proofs.SeatStands.{stays_on}
 use Rattle.tally_core.specs.Attempts.{IsTrying}
 use Rattle.tally_core.proofs.adding.add_pair.Goals as goal
 
@@ -13,10 +14,7 @@ tries-init c = record {
 pub tries-preserved : goal.tries-preserved
 tries-preserved c = record {
   trying = λ added was. (c.in-Again.ensures.tried added (c.tries.invariant.trying added was)).0;
-  stays = record {
-    numbers = c.in-Again.ensures.stays.numbers ∙ c.tries.invariant.stays.numbers;
-    first = c.in-Again.ensures.stays.first ∙ c.tries.invariant.stays.first;
-  };
+  stays = stays_on c.tries.invariant.stays c.in-Again.ensures.stays;
 }
 
 pub returns-in-Added-clause-added : goal.returns-in-Added-clause-added

@@ -1,9 +1,10 @@
-use Rattle.std.proofs.Common.{◌≡◌, ◌∙◌, arith, false, subst, sym, take, true}
+use Rattle.std.proofs.Common.{◌≡◌, arith, false, subst, sym, take, true}
 use Rattle.std.proofs.lemmas.List.{take_more}
 use Rattle.flow_fold.specs.Flows.{Flows}
 use Rattle.flow_fold.specs.declared.key.Key.{Key}
 use Rattle.flow_fold.specs.declared.value.Value.{Value}
 use Rattle.tally_core.proofs.Attempts.{has_worked}
+use Rattle.tally_core.proofs.SeatStands.{stays_on}
 use Rattle.tally_core.specs.Attempts.{IsAdding}
 use Rattle.tally_core.proofs.adding.add_pairs.Goals as goal
 
@@ -12,10 +13,7 @@ loop-i-preserved c =
     let none : Key × Value = (record { k0 = 0; k1 = 0 }, record { packets = 0; octets = 0; first = 0; last = 0 }) in record {
       adding = subst (λ (l : Flows). IsAdding c.args.shared.now l c.add_pair.new.seat) (sym (take_more c.args.pairs.now c.loop-i.i none c.loop-i-test.true))
           (c.if-not-add_pair.ensures.added (take c.loop-i.i c.args.pairs.now) c.loop-i.invariant.adding);
-      stays = record {
-        numbers = c.if-not-add_pair.ensures.stays.numbers ∙ c.loop-i.invariant.stays.numbers;
-        first = c.if-not-add_pair.ensures.stays.first ∙ c.loop-i.invariant.stays.first;
-      };
+      stays = stays_on c.loop-i.invariant.stays c.if-not-add_pair.ensures.stays;
     }
 
 pub returns-then-not-add_pair-clause-worked : goal.returns-then-not-add_pair-clause-worked

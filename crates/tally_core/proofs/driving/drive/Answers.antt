@@ -8,8 +8,7 @@ use Rattle.step_rules.specs.declared.plan.Plan.{Plan}
 use Rattle.tally_core.proofs.Limits.{fits, is_plan}
 use Rattle.tally_core.proofs.Whole.{all_told, has_driven}
 use Rattle.tally_core.specs.Driving.{HasDriven}
-use Rattle.tally_core.specs.Workers.{HasMerged, lines_by, replies_at}
-use Rattle.tally_core.specs.declared.callers.Caller.{Caller}
+use Rattle.tally_core.specs.Workers.{Caller, HasMerged, lines_by, replies_at}
 use Rattle.tally_core.proofs.driving.drive.Goals as goal
 
 pub open-requires-clause-plan : goal.open-requires-clause-plan
@@ -27,7 +26,7 @@ merge_replies-requires g c =
     let opened = c.in_ok-shared.ensures.opened in
     let plan = opened.plan_is ∙ c.plan_for-plan.ensures in
     let may = subst (λ (z : ℕ × List Entry). MayRun z.0 blank_object z.1) (λ j. ((sym plan j).seats, sym c.as_slice-lines.ensures j)) c.requires.may in
-    let whole = c.in_ok-callers.ensures.numbers ∙ (opened.numbers ∙ ap (λ (p : Plan). count_up 0 p.seats) (sym opened.plan_is)) in record {
+    let whole = c.in_ok-callers.ensures.back.numbers ∙ (opened.numbers ∙ ap (λ (p : Plan). count_up 0 p.seats) (sym opened.plan_is)) in record {
       all = subst (λ (l : List Caller). (x : ℕ) → length (lines_by x c.as_slice-lines.result.now) ≡ length (replies_at l x)) (sym c.deref.ensures.value)
           (all_told c.in_ok-callers.callers.items c.in_ok-callers.ensures.run whole may);
     }
@@ -37,7 +36,7 @@ returns g c =
     let opened = c.in_ok-shared.ensures.opened in
     let plan = opened.plan_is ∙ c.plan_for-plan.ensures in
     let may = subst (λ (z : ℕ × List Entry). MayRun z.0 blank_object z.1) (λ j. ((sym plan j).seats, sym c.as_slice-lines.ensures j)) c.requires.may in
-    let whole = c.in_ok-callers.ensures.numbers ∙ (opened.numbers ∙ ap (λ (p : Plan). count_up 0 p.seats) (sym opened.plan_is)) in
+    let whole = c.in_ok-callers.ensures.back.numbers ∙ (opened.numbers ∙ ap (λ (p : Plan). count_up 0 p.seats) (sym opened.plan_is)) in
     let merged = subst (λ (l : List Caller). HasMerged c.as_slice-lines.result.now (replies_at l) c.in_ok-replies.replies.items) c.deref.ensures.value c.in_ok-replies.ensures.merged in record {
       driven = subst (λ (z : Plan × List Entry). HasDriven z.0 z.1 c.in_ok-driven.driven c.close_all-closed.result) (λ j. (plan j, c.as_slice-lines.ensures j))
           (has_driven c.in_ok-callers.callers.items c.in_ok-callers.ensures.run merged c.close_all-closed.ensures.closed whole c.in_ok-driven.driven may

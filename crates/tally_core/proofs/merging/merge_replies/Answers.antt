@@ -7,8 +7,7 @@ use Rattle.seat_history.specs.declared.reply.Reply.{Reply}
 use Rattle.seat_history.specs.declared.reply.Reply.TheVariants.{Done}
 use Rattle.tally_core.proofs.Coming.{drop_one}
 use Rattle.tally_core.proofs.Merged.{Serves, caller_there, has_merged, left_next, left_of, merged, serves_rest, told_after, turn_there}
-use Rattle.tally_core.specs.Workers.{replies_at}
-use Rattle.tally_core.specs.declared.callers.Caller.{Caller}
+use Rattle.tally_core.specs.Workers.{Caller, replies_at}
 use Rattle.tally_core.proofs.merging.merge_replies.Goals as goal
 
 pub loop-line-preserved : goal.loop-line-preserved
@@ -23,8 +22,8 @@ loop-line-preserved c =
     let there = caller_there callers next line rest serves in
     let turn : c.index-turn.result.now ≡ get_or next line.caller 0 =
     get_or_read_under next line.caller (length next) c.index-turn.result.now 0 c.index-turn.ensures (omega (arith, there, was.long)) refl in
-    let own = (get_or callers line.caller c.index-callers-caller.result).replies.items in
-    let replies : replies_at callers line.caller ≡ own = get_or-map (λ (z : Caller). z.replies.items) callers line.caller c.index-callers-caller.result [] there in
+    let own = (get_or callers line.caller c.index-callers-caller.result).told.items in
+    let replies : replies_at callers line.caller ≡ own = get_or-map (λ (z : Caller). z.told.items) callers line.caller c.index-callers-caller.result [] there in
     let n = get_or next line.caller 0 in
     let same : c.index-turn.result.now ≡ n + 0 = turn ∙ omega arith in
     let within : c.index-turn.result.now < length own = omega (arith, turn_there callers next line rest serves, turn, ap length replies) in

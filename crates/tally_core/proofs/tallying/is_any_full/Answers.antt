@@ -1,13 +1,12 @@
 use Rattle.std.proofs.Common.{◌≡◌, ◌∙◌, ap, arith, false, ⊎_elim}
 use Rattle.std.proofs.lemmas.Bool.{cases_lt}
 use Rattle.std.proofs.lemmas.List.{get_or-map}
-use Rattle.tally_core.specs.Tallying.{full_at}
-use Rattle.tally_core.specs.declared.adding.Adder.{Adder}
+use Rattle.tally_core.specs.Tallying.{Adder, full_at}
 use Rattle.tally_core.proofs.tallying.is_any_full.Goals as goal
 
 pub loop-i-preserved : goal.loop-i-preserved
 loop-i-preserved c w l =
     let adders = c.args.adders.now in
-    let here : full_at adders c.loop-i.i ≡ false = get_or-map (λ (one : Adder). one.full) adders c.loop-i.i c.index-adders-i.result false c.loop-i-test.true
+    let here : full_at adders c.loop-i.i ≡ false = get_or-map (λ (one : Adder). one.told) adders c.loop-i.i c.index-adders-i.result false c.loop-i-test.true
     ∙ c.if-adders-i.false in
     ⊎_elim (λ before. c.loop-i.invariant w before) (λ at. let same : w ≡ c.loop-i.i = omega (arith, at, l) in ap (full_at adders) same ∙ here) (cases_lt w c.loop-i.i)

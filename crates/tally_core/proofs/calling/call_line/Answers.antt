@@ -1,6 +1,6 @@
 use Rattle.std.proofs.Common.{ap, arith, List, ℕ, slice_index}
 use Rattle.tally_core.proofs.Coming.{can_call, come_on, few_told}
-use Rattle.tally_core.proofs.worker.call_line.Goals as goal
+use Rattle.tally_core.proofs.calling.call_line.Goals as goal
 
 pub overflow_cast-turn : goal.overflow_cast-turn
 overflow_cast-turn g c = let few = few_told c.requires.come.3 in omega (arith, few, c.requires.come.4, c.len-turn.ensures)

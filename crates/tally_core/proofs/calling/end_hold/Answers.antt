@@ -1,5 +1,5 @@
 use Rattle.tally_core.proofs.Coming.{ended_held, released}
-use Rattle.tally_core.proofs.worker.end_hold.Goals as goal
+use Rattle.tally_core.proofs.calling.end_hold.Goals as goal
 use Rattle.std.proofs.Common.{refl, sym, ◌∙◌}
 
 pub returns-then-holds_record-clause-run : goal.returns-then-holds_record-clause-run
