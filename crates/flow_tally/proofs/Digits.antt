@@ -5,6 +5,7 @@ use Rattle.std.specs.Str.Parse.{IsNumeral, digits_value}
 use Rattle.std.proofs.Common.{◌≡◌, ℕ, ◌<◌, ◌≤◌, Bool, true, false, refl, sym, Some, None, List, length, arith}
 use Rattle.std.proofs.lemmas.Bool.{false≢true}
 use Rattle.std.proofs.lemmas.Bool.Decides.{nat_tests}
+use Rattle.std.proofs.lemmas.Option.{cond_some}
 use Rattle.std.proofs.lemmas.Str.Parse.{IsNumeralModel, numerals_by_value, tells_all_ascii_digits}
 use Rattle.flow_tally.specs.Numbers.{decimal_in}
 
@@ -45,3 +46,11 @@ module _ (least most : ℕ) (text : List ℕ) where
       let d : nat_le least (digits_value 10 text) ≡ true = grind (arith, nat_tests) in
       let e : nat_le (digits_value 10 text) most ≡ true = grind (arith, nat_tests) in
       sym (λ j. if a j && (b j && (d j && e j)) then Some (digits_value 10 text) else None)
+
+  pub at_most : (n : ℕ) → decimal_in least most text ≡ Some n → n ≤ most
+  unfolding decimal_in
+  at_most n is =
+      let (passes, same) = cond_some _ (digits_value 10 text) n is in
+      let t = all_true (nat_lt 0 (length text)) (all_ascii_digits text) (nat_le least (digits_value 10 text)) (nat_le (digits_value 10 text) most) passes in
+      let high : digits_value 10 text ≤ most = grind (arith, nat_tests, t.3) in
+      omega (arith, same)

@@ -9,6 +9,7 @@ use Rattle.netflow_five.proofs.Files.{joined-append, files_joined}
 use Rattle.flow_tally.specs.Input.{most_bytes, AreContents, AreGood, FeedShown, IsReadOut, StopsAt, IsBytesOf, IsAt, IsTooLarge, RefusesFiles}
 use Rattle.flow_tally.specs.Reading.{IsLongerFile, Reads, AddsFile, IsGatheredOf, HasRead}
 use Rattle.flow_tally.specs.Gathered.{HasGathered}
+use Rattle.flow_tally.specs.Words.{Files}
 use Rattle.flow_tally.specs.declared.status.Status.{Status}
 use Rattle.flow_tally.specs.declared.status.Status.TheVariants.{Done, Usage, OpenFault, ReadFault, WriteFault, BadDatagram, TooManyFlows, InputTooLarge, BadScript, NoMemory, PlanTooLarge}
 use Rattle.flow_tally.specs.declared.gathered.Gathered.{Gathered}
@@ -96,7 +97,7 @@ file_so_far feed files i left n name file old new is so_far adds =
 
 -- after the last file all were read
 pub all_so_far : (feed : FeedShown) (files : List (List ℕ)) (i left : ℕ) (gathered : Gathered) → i ≡ length files
-    → SoFar feed.names files i left gathered → IsReadOut i feed → HasRead feed files gathered
+    → SoFar feed.names files i left gathered → IsReadOut i feed → HasRead feed (Files files) gathered
 all_so_far feed files i left gathered end so_far out = (
   subst (λ (n : ℕ). IsReadOut n feed) end out,
   so_far.0,

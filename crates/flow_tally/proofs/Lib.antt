@@ -1,9 +1,11 @@
+pub mod Bounds
 pub mod Digits
 pub mod Gathering
 pub mod Inputs
 pub mod Lists
 pub mod OutcomeComplete
 pub mod OutcomeDrive
+pub mod OutcomeEnds
 pub mod OutcomeFirstFile
 pub mod OutcomeOne
 pub mod OutcomeReport
@@ -11,4 +13,5 @@ pub mod OutcomeSome
 pub mod Outcomes
 pub mod Parse
 pub mod Rules
+pub mod Sources
 pub mod Told

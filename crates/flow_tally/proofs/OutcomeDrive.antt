@@ -1,4 +1,4 @@
--- What a status says of a drive is what its file determines, devices and memory aside.
+-- A drive has one outcome, and what its file's reading comes to.
 use Rattle.std.specs.Prelude.{slice_get, MatchOption, Err}
 use Rattle.std.proofs.Common.{◌≡◌, ◌∙◌, ℕ, ◌<◌, ◌≤◌, Option, Some, None, List, [], ◌∷◌, length, refl, sym, ap, subst, arith}
 use Rattle.wire_ports.specs.Ports.{Names, bytes_under}
@@ -9,51 +9,14 @@ use Rattle.call_script.specs.Script.{Reading, Good, Bad, Many, ReadAs, bad_readi
 use Rattle.call_script.specs.declared.bad_script.BadScript.{BadScript as ScriptFault}
 use Rattle.call_script.specs.declared.bad_script.BadScript.TheVariants.{BadLine, TooMany, NoMemory as OutOfMemory}
 use Rattle.call_script.proofs.OneReading.{one_reading}
-use Rattle.flow_tally.specs.DriveOutcome.{IsDriven, IsGoodScript, Drives, HasFault, RefusesDrive, DriveSays, DeterminesDrive}
+use Rattle.flow_tally.specs.DriveOutcome.{IsDriveOutcome, IsGoodScript, HasFault}
 use Rattle.flow_tally.specs.Input.{most_bytes, FeedShown, IsFirstTooLarge, RefusesFiles}
-use Rattle.flow_tally.specs.OutShown.{OutShown, Took, TookAll, TookFront}
-use Rattle.flow_tally.specs.Outcome.{IsDecided}
+use Rattle.flow_tally.specs.Outcome.{Refuses}
 use Rattle.flow_tally.specs.Reading.{Reads}
-use Rattle.flow_tally.specs.Telling.{HasNumbers}
 use Rattle.flow_tally.specs.Words.{Drive, OfDrive}
 use Rattle.flow_tally.specs.declared.status.Status.{Status}
 use Rattle.flow_tally.specs.declared.status.Status.TheVariants.{Done, Usage, OpenFault, ReadFault, WriteFault, BadDatagram, TooManyFlows, InputTooLarge, BadScript, NoMemory, PlanTooLarge}
 use Rattle.flow_tally.proofs.Inputs.{one_refused}
-use Rattle.step_rules.specs.Closing.{ClosedData}
-
--- a drive that ended before its output may end for want of memory as well
-pub no_memory_of_drive : (drive : Drive) (feed : FeedShown) (out : OutShown) (closed : Option ClosedData) (status : Status) → HasNumbers status → DriveSays drive feed out closed status
-    → DriveSays drive feed out closed NoMemory
-no_memory_of_drive drive feed out closed Done before says = absurd before
-no_memory_of_drive drive feed out closed Usage before says = absurd before
-no_memory_of_drive drive feed out closed (OpenFault file) before says = (tt, says.1, says.2)
-no_memory_of_drive drive feed out closed (ReadFault file) before says = (tt, says.1, says.2)
-no_memory_of_drive drive feed out closed (WriteFault written) before says = absurd before
-no_memory_of_drive drive feed out closed (BadDatagram file offset cause) before says = (tt, says.1, says.2)
-no_memory_of_drive drive feed out closed (TooManyFlows limit) before says = (tt, says.1, says.2)
-no_memory_of_drive drive feed out closed (InputTooLarge file) before says = (tt, says.1, says.2)
-no_memory_of_drive drive feed out closed (BadScript fault) before says = (tt, says.1, says.2)
-no_memory_of_drive drive feed out closed NoMemory before says = absurd before
-no_memory_of_drive drive feed out closed (PlanTooLarge nodes) before says = (tt, says.1, says.2)
-
--- what has come of a script is a script
-good_script : {text : List ℕ} (drive : Drive) (names : Option Names) (closed : ClosedData) → IsDriven drive names closed text → IsGoodScript drive names
-good_script drive names closed (bytes, callers, entries, driven, told, is, has, words) = (bytes, callers, entries, told, is)
-
--- it is what words and files determine
-pub drive_decided : (drive : Drive) (feed : FeedShown) (names : Names) (out : OutShown) (closed : Option ClosedData) (status : Status)
-    → DriveSays drive (record feed { names = Some names }) out closed status → IsDecided (Some (OfDrive drive)) names status
-drive_decided drive feed names out closed Done says = good_script drive (Some names) says.1.1 says.1.3
-drive_decided drive feed names out closed Usage says = absurd says.0
-drive_decided drive feed names out closed (OpenFault file) says = tt
-drive_decided drive feed names out closed (ReadFault file) says = tt
-drive_decided drive feed names out closed (WriteFault written) says = good_script drive (Some names) says.1.1 says.1.3
-drive_decided drive feed names out closed (BadDatagram file offset cause) says = absurd says.0
-drive_decided drive feed names out closed (TooManyFlows limit) says = absurd says.0
-drive_decided drive feed names out closed (InputTooLarge file) says = says.0.0
-drive_decided drive feed names out closed (BadScript fault) says = says.0.0
-drive_decided drive feed names out closed NoMemory says = tt
-drive_decided drive feed names out closed (PlanTooLarge nodes) says = absurd says.0
 
 -- the one file of a list is the first
 alone : (x name : List ℕ) (before : List (List ℕ)) → slice_get (x ∷ []) (length before) ≡ Some name → (length before ≡ 0) × (x ≡ name)
@@ -117,14 +80,14 @@ no_fault drive names fault (bytes, callers, entries, told, is) (others, also, ba
     let same : q.0 ≡ Good callers entries = one_reading (lines_of bytes) q.0 (Good callers entries) here is.reads in
     never_good fault callers entries (q.1 ∙ ap (λ (r : Reading). Some r) same)
 
-done_not_large : (drive : Drive) (names : Names) (file : ℕ) → DeterminesDrive drive names Done → DeterminesDrive drive names (InputTooLarge file) → ⊥
+done_not_large : (drive : Drive) (names : Names) (file : ℕ) → IsDriveOutcome drive (Some names) Done → IsDriveOutcome drive (Some names) (InputTooLarge file) → ⊥
 done_not_large drive names file (bytes, callers, entries, told, is) large = fits drive names file bytes told is.within large
 
-bad_not_large : (drive : Drive) (names : Names) (file : ℕ) (fault : ScriptFault) → HasFault drive (Some names) fault → DeterminesDrive drive names (InputTooLarge file) → ⊥
+bad_not_large : (drive : Drive) (names : Names) (file : ℕ) (fault : ScriptFault) → HasFault drive (Some names) fault → IsDriveOutcome drive (Some names) (InputTooLarge file) → ⊥
 bad_not_large drive names file fault (bytes, told, bad) large = fits drive names file bytes told bad.within large
 
 module _ (drive : Drive) (names : Names) where
-  pub one_for_drive : (s t : Status) → DeterminesDrive drive names s → DeterminesDrive drive names t → s ≡ t
+  pub one_for_drive : (s t : Status) → IsDriveOutcome drive (Some names) s → IsDriveOutcome drive (Some names) t → s ≡ t
   one_for_drive Done Done a b = refl
   one_for_drive Done (InputTooLarge g) a b = absurd (done_not_large drive names g a b)
   one_for_drive Done (BadScript y) a b = absurd (no_fault drive names y a b)
@@ -153,16 +116,16 @@ module _ (drive : Drive) (names : Names) where
 
 -- a file that is read alone and fails refuses the drive
 pub read_refuses : (drive : Drive) (feed : FeedShown) (name : List ℕ) (status : Status) → name ≡ drive.file
-    → feed.current ≡ 1 → Reads most_bytes feed name 1 (Err status) → RefusesDrive drive feed status
+    → feed.current ≡ 1 → Reads most_bytes feed name 1 (Err status) → Refuses (Some (OfDrive drive)) feed status
 read_refuses drive feed name status is last reads =
     let here = subst (λ (z : List ℕ). Reads most_bytes feed z 1 (Err status)) is reads in
     refuses status (one_refused feed drive.file status last here) here
   where
-    refuses : (s : Status) → RefusesFiles (drive.file ∷ []) feed s → Reads most_bytes feed drive.file 1 (Err s) → RefusesDrive drive feed s
+    refuses : (s : Status) → RefusesFiles (drive.file ∷ []) feed s → Reads most_bytes feed drive.file 1 (Err s) → Refuses (Some (OfDrive drive)) feed s
     refuses Done r h = absurd h
     refuses Usage r h = absurd h
-    refuses (OpenFault file) r h = r
-    refuses (ReadFault file) r h = r
+    refuses (OpenFault file) r h = (tt, r)
+    refuses (ReadFault file) r h = (tt, r)
     refuses (WriteFault written) r h = absurd h
     refuses (BadDatagram file offset cause) r h = absurd h
     refuses (TooManyFlows limit) r h = absurd h
@@ -170,23 +133,3 @@ read_refuses drive feed name status is last reads =
     refuses (BadScript fault) r h = absurd h
     refuses NoMemory r h = tt
     refuses (PlanTooLarge nodes) r h = absurd h
-
-took_as : (drive : Drive) (feed : FeedShown) (out : OutShown) (closed : Option ClosedData) (text bytes : List ℕ) (status : Status) → bytes ≡ text → Drives drive feed closed text
-    → Took bytes out status → DriveSays drive feed out closed status
-took_as drive feed out closed text bytes Done same is took = (text, is, subst (λ (z : List ℕ). TookAll z out) same took)
-took_as drive feed out closed text bytes (WriteFault written) same is took = (text, is, subst (λ (z : List ℕ). TookFront z written out) same took)
-took_as drive feed out closed text bytes Usage same is took = absurd took
-took_as drive feed out closed text bytes (OpenFault file) same is took = absurd took
-took_as drive feed out closed text bytes (ReadFault file) same is took = absurd took
-took_as drive feed out closed text bytes (BadDatagram file offset cause) same is took = absurd took
-took_as drive feed out closed text bytes (TooManyFlows limit) same is took = absurd took
-took_as drive feed out closed text bytes (InputTooLarge file) same is took = absurd took
-took_as drive feed out closed text bytes (BadScript fault) same is took = absurd took
-took_as drive feed out closed text bytes NoMemory same is took = absurd took
-took_as drive feed out closed text bytes (PlanTooLarge nodes) same is took = absurd took
-
--- the text that comes of the file's script was written, whole or in part, and its object is given
-pub took_says : {last closed : Option ClosedData} (drive : Drive) (feed : FeedShown) (out : OutShown) (text bytes : List ℕ) (status : Status) → last ≡ closed → bytes ≡ text
-    → Drives drive feed closed text → Took bytes out status → DriveSays drive feed out last status
-took_says {last = last} drive feed out text bytes status given same is took =
-    took_as drive feed out last text bytes status same (subst (λ (z : Option ClosedData). Drives drive feed z text) (sym given) is) took

@@ -2,40 +2,42 @@
 use Rattle.std.proofs.Common.{◌≡◌, ◌∙◌, ℕ, ◌≤◌, Option, Some, None, refl, sym, ap, arith}
 use Rattle.wire_ports.specs.Ports.{Names}
 use Rattle.netflow_five.specs.declared.malformed.Malformed.{Malformed}
-use Rattle.flow_tally.specs.Outcome.{nodes_of, most_nodes, DeterminesTally, Determines}
+use Rattle.flow_tally.specs.Outcome.{Determines}
+use Rattle.flow_tally.specs.TallyOutcome.{IsTallyOutcome, files_in, most_nodes, nodes_of}
 use Rattle.flow_tally.specs.Words.{Tally, Command, OfTally, OfDrive}
 use Rattle.flow_tally.proofs.OutcomeDrive.{one_for_drive}
 use Rattle.flow_tally.specs.declared.status.Status.{Status}
 use Rattle.flow_tally.specs.declared.status.Status.TheVariants.{Done, Usage, OpenFault, ReadFault, WriteFault, BadDatagram, TooManyFlows, InputTooLarge, BadScript, NoMemory, PlanTooLarge}
-use Rattle.flow_tally.proofs.OutcomeFirstFile.{one_large, bad_not_large, one_bad_file, large_is_none, bad_file_is_none}
+use Rattle.flow_tally.proofs.OutcomeFirstFile.{one_large, bad_not_large, one_bad_file}
 use Rattle.flow_tally.proofs.OutcomeReport.{report_not_many}
+use Rattle.flow_tally.proofs.Sources.{good_not_bad, good_not_large}
 
 module _ (tally : Tally) (names : Names) where
   -- a plan within the limit isn't too large
-  plan_fits : (nodes : ℕ) → DeterminesTally tally names (PlanTooLarge nodes) → nodes_of tally ≤ most_nodes → ⊥
+  plan_fits : (nodes : ℕ) → IsTallyOutcome tally (Some names) (PlanTooLarge nodes) → nodes_of tally ≤ most_nodes → ⊥
   plan_fits nodes large fits = omega (arith, large.0, large.1, fits)
 
   -- where there is a report no file is too large
-  done_not_large : (file : ℕ) → DeterminesTally tally names Done → DeterminesTally tally names (InputTooLarge file) → ⊥
-  done_not_large file (fits, text, (contents, ds, flows, told, made, few, is)) large = large_is_none names tally.files contents file large.1 told made.good
+  done_not_large : (file : ℕ) → IsTallyOutcome tally (Some names) Done → IsTallyOutcome tally (Some names) (InputTooLarge file) → ⊥
+  done_not_large file (fits, text, (contents, ds, flows, told, made, few, is)) large = good_not_large names contents file tally.source told made.good large.1
 
   -- and none is bad
-  done_not_bad : (file offset : ℕ) (cause : Malformed) → DeterminesTally tally names Done → DeterminesTally tally names (BadDatagram file offset cause) → ⊥
-  done_not_bad file offset cause (fits, text, (contents, ds, flows, told, made, few, is)) bad = bad_file_is_none names tally.files contents file offset cause bad.1 told made.good
+  done_not_bad : (file offset : ℕ) (cause : Malformed) → IsTallyOutcome tally (Some names) Done → IsTallyOutcome tally (Some names) (BadDatagram file offset cause) → ⊥
+  done_not_bad file offset cause (fits, text, (contents, ds, flows, told, made, few, is)) bad = good_not_bad names contents file offset cause tally.source told made.good bad.1
 
   -- and there aren't too many flows
-  done_not_many : (limit : ℕ) → DeterminesTally tally names Done → DeterminesTally tally names (TooManyFlows limit) → ⊥
+  done_not_many : (limit : ℕ) → IsTallyOutcome tally (Some names) Done → IsTallyOutcome tally (Some names) (TooManyFlows limit) → ⊥
   done_not_many limit done many = report_not_many tally names done.1 done.2 many.2
 
   -- where there are too many flows no file is too large
-  many_not_large : (limit file : ℕ) → DeterminesTally tally names (TooManyFlows limit) → DeterminesTally tally names (InputTooLarge file) → ⊥
-  many_not_large limit file (fits, is, (contents, ds, flows, told, made, more)) large = large_is_none names tally.files contents file large.1 told made.good
+  many_not_large : (limit file : ℕ) → IsTallyOutcome tally (Some names) (TooManyFlows limit) → IsTallyOutcome tally (Some names) (InputTooLarge file) → ⊥
+  many_not_large limit file (fits, is, (contents, ds, flows, told, made, more)) large = good_not_large names contents file tally.source told made.good large.1
 
   -- and none is bad
-  many_not_bad : (limit file offset : ℕ) (cause : Malformed) → DeterminesTally tally names (TooManyFlows limit) → DeterminesTally tally names (BadDatagram file offset cause) → ⊥
-  many_not_bad limit file offset cause (fits, is, (contents, ds, flows, told, made, more)) bad = bad_file_is_none names tally.files contents file offset cause bad.1 told made.good
+  many_not_bad : (limit file offset : ℕ) (cause : Malformed) → IsTallyOutcome tally (Some names) (TooManyFlows limit) → IsTallyOutcome tally (Some names) (BadDatagram file offset cause) → ⊥
+  many_not_bad limit file offset cause (fits, is, (contents, ds, flows, told, made, more)) bad = good_not_bad names contents file offset cause tally.source told made.good bad.1
 
-  one_for_tally : (s t : Status) → DeterminesTally tally names s → DeterminesTally tally names t → s ≡ t
+  one_for_tally : (s t : Status) → IsTallyOutcome tally (Some names) s → IsTallyOutcome tally (Some names) t → s ≡ t
   one_for_tally Done Done a b = refl
   one_for_tally Done (PlanTooLarge m) a b = absurd (plan_fits m b a.0)
   one_for_tally Done (TooManyFlows m) a b = absurd (done_not_many m a b)
@@ -54,14 +56,14 @@ module _ (tally : Tally) (names : Names) where
   one_for_tally (InputTooLarge f) Done a b = absurd (done_not_large f b a)
   one_for_tally (InputTooLarge f) (PlanTooLarge m) a b = absurd (plan_fits m b a.0)
   one_for_tally (InputTooLarge f) (TooManyFlows m) a b = absurd (many_not_large m f b a)
-  one_for_tally (InputTooLarge f) (InputTooLarge g) a b = ap (λ (k : ℕ). InputTooLarge k) (one_large names tally.files f g a.1 b.1)
-  one_for_tally (InputTooLarge f) (BadDatagram g p d) a b = absurd (bad_not_large names tally.files g f p d b.1 a.1)
+  one_for_tally (InputTooLarge f) (InputTooLarge g) a b = ap (λ (k : ℕ). InputTooLarge k) (one_large names (files_in tally.source) f g a.1 b.1)
+  one_for_tally (InputTooLarge f) (BadDatagram g p d) a b = absurd (bad_not_large names (files_in tally.source) g f p d b.1 a.1)
   one_for_tally (BadDatagram f o c) Done a b = absurd (done_not_bad f o c b a)
   one_for_tally (BadDatagram f o c) (PlanTooLarge m) a b = absurd (plan_fits m b a.0)
   one_for_tally (BadDatagram f o c) (TooManyFlows m) a b = absurd (many_not_bad m f o c b a)
-  one_for_tally (BadDatagram f o c) (InputTooLarge g) a b = absurd (bad_not_large names tally.files f g o c a.1 b.1)
+  one_for_tally (BadDatagram f o c) (InputTooLarge g) a b = absurd (bad_not_large names (files_in tally.source) f g o c a.1 b.1)
   one_for_tally (BadDatagram f o c) (BadDatagram g p d) a b =
-      let same = one_bad_file names tally.files f g o p c d a.1 b.1 in
+      let same = one_bad_file names (files_in tally.source) f g o p c d a.1 b.1 in
       ap (λ (k : ℕ). BadDatagram k o c) same.0 ∙ ap (λ (k : ℕ). BadDatagram g k c) same.1 ∙ ap (λ (k : Malformed). BadDatagram g p k) same.2
   one_for_tally Usage t a b = absurd a
   one_for_tally (OpenFault f) t a b = absurd a
@@ -76,21 +78,8 @@ module _ (tally : Tally) (names : Names) where
   one_for_tally s NoMemory a b = absurd b
   one_for_tally s (BadScript x) a b = absurd b
 
-usage_alone : (names : Names) (s : Status) → Determines None names s → s ≡ Usage
-usage_alone names Usage a = refl
-usage_alone names Done a = absurd a
-usage_alone names (OpenFault f) a = absurd a
-usage_alone names (ReadFault f) a = absurd a
-usage_alone names (WriteFault w) a = absurd a
-usage_alone names (BadDatagram f o c) a = absurd a
-usage_alone names (TooManyFlows n) a = absurd a
-usage_alone names (InputTooLarge f) a = absurd a
-usage_alone names NoMemory a = absurd a
-usage_alone names (BadScript x) a = absurd a
-usage_alone names (PlanTooLarge n) a = absurd a
-
 -- two statuses that words and files determine are one
 pub one_outcome : (asked : Option Command) (names : Names) (s t : Status) → Determines asked names s → Determines asked names t → s ≡ t
-one_outcome None names s t a b = usage_alone names s a ∙ sym (usage_alone names t b)
+one_outcome None names s t a b = a ∙ sym b
 one_outcome (Some (OfTally tally)) names s t a b = one_for_tally tally names s t a b
 one_outcome (Some (OfDrive drive)) names s t a b = one_for_drive drive names s t a b

@@ -1,4 +1,4 @@
--- Files that can be tallied have one tally and one report.
+-- What can be tallied has one tally and one report.
 use Rattle.std.proofs.Common.{◌≡◌, ◌∙◌, ℕ, Some, List, length, sym, ap, ap₂, subst, arith}
 use Rattle.wire_ports.specs.Ports.{Names}
 use Rattle.netflow_five.specs.File.{joined, all_records}
@@ -7,11 +7,11 @@ use Rattle.flow_fold.specs.Flows.{Flows, value_in}
 use Rattle.flow_fold.specs.Fold.{IsFold}
 use Rattle.flow_fold.specs.Pair.{pairs_of}
 use Rattle.flow_fold.proofs.Folds.{fold_list_unique}
-use Rattle.flow_report.specs.Text.{report_text}
-use Rattle.flow_tally.specs.Outcome.{IsTally, totals_of, IsReport, HasTooManyFlows}
+use Rattle.flow_tally.specs.TallyOutcome.{IsTally, totals_of, IsPrinted, HasTooManyFlows, printed}
 use Rattle.flow_tally.specs.Words.{Tally}
+use Rattle.flow_tally.proofs.Sources.{one_contents}
 
--- files have one list of datagrams, and these one list of flows
+-- contents have one list of datagrams, and these one list of flows
 pub one_tally : (contents ds others es : List (List ℕ)) (xs ys : Flows) → contents ≡ others → IsTally contents ds xs → IsTally others es ys → (ds ≡ es) × (xs ≡ ys)
 one_tally contents ds others es xs ys same a b =
     let one = one_list ds es a.file.each b.file.each (sym a.file.whole ∙ ap joined same ∙ b.file.whole) in
@@ -19,13 +19,13 @@ one_tally contents ds others es xs ys same a b =
     (one, fold_list_unique (pairs_of (all_records es)) xs ys a.rising b.rising fold b.fold)
 
 -- the text of a report is one
-pub one_report : (tally : Tally) (names : Names) (a b : List ℕ) → IsReport tally (Some names) a → IsReport tally (Some names) b → a ≡ b
+pub one_report : (tally : Tally) (names : Names) (a b : List ℕ) → IsPrinted tally (Some names) a → IsPrinted tally (Some names) b → a ≡ b
 one_report tally names a b (contents, ds, xs, told, made, few, text) (others, es, ys, also, done, small, words) =
-    let both = one_tally contents ds others es xs ys (told ∙ sym also) made done in
-    text ∙ ap₂ (λ (x : Flows) (z : List (List ℕ)). report_text x (totals_of z)) both.1 both.0 ∙ sym words
+    let both = one_tally contents ds others es xs ys (one_contents names tally.source contents others told also) made done in
+    text ∙ ap₂ (λ (x : Flows) (z : List (List ℕ)). printed tally.source x (totals_of z)) both.1 both.0 ∙ sym words
 
 -- where there is a report there aren't too many flows
-pub report_not_many : (tally : Tally) (names : Names) (a : List ℕ) → IsReport tally (Some names) a → HasTooManyFlows tally (Some names) → ⊥
+pub report_not_many : (tally : Tally) (names : Names) (a : List ℕ) → IsPrinted tally (Some names) a → HasTooManyFlows tally (Some names) → ⊥
 report_not_many tally names a (contents, ds, xs, told, made, few, text) (others, es, ys, also, done, many) =
-    let both = one_tally contents ds others es xs ys (told ∙ sym also) made done in
+    let both = one_tally contents ds others es xs ys (one_contents names tally.source contents others told also) made done in
     omega (arith, few, many, ap length both.1)

@@ -6,21 +6,23 @@ use Rattle.std.proofs.lemmas.List.{length-append}
 use Rattle.std.proofs.lemmas.Option.{slice_get-get_or}
 use Rattle.wire_ports.specs.Ports.{Names, bytes_under}
 use Rattle.netflow_five.specs.File.{joined, IsWellFormed, all_records}
+use Rattle.netflow_five.specs.Generating.{generated}
 use Rattle.netflow_five.proofs.Files.{joined_well}
 use Rattle.netflow_five.proofs.SomeFault.{whole_or_bad}
 use Rattle.flow_fold.specs.Pair.{pairs_of}
 use Rattle.flow_fold.proofs.SomeFold.{some_fold}
-use Rattle.flow_report.specs.Text.{report_text}
 use Rattle.call_script.specs.Cut.{lines_of}
 use Rattle.call_script.specs.Script.{Reading, Good, Bad, Many, ReadAs}
 use Rattle.call_script.specs.declared.bad_script.BadScript.TheVariants.{BadLine, TooMany}
 use Rattle.call_script.proofs.SomeReading.{bytes_read}
 use Rattle.call_script.proofs.Tuples.{drop_first, drop_nothing}
-use Rattle.flow_tally.specs.DriveOutcome.{DeterminesDrive}
+use Rattle.flow_tally.specs.DriveOutcome.{IsDriveOutcome}
 use Rattle.flow_tally.specs.Input.{most_bytes, AreContents, AreGood}
-use Rattle.flow_tally.specs.Outcome.{nodes_of, most_nodes, IsTally, totals_of, DeterminesTally, Determines}
+use Rattle.flow_tally.specs.Outcome.{Determines}
+use Rattle.flow_tally.specs.TallyOutcome.{AreTallied, IsTally, IsTallyOutcome, most_nodes, nodes_of, printed, totals_of}
 use Rattle.flow_tally.proofs.Inputs.{alone, good_more, next_file, told_more}
-use Rattle.flow_tally.specs.Words.{Tally, Drive, Command, OfTally, OfDrive}
+use Rattle.flow_tally.proofs.Sources.{generated_good}
+use Rattle.flow_tally.specs.Words.{Source, Files, Generated, Tally, Drive, Command, OfTally, OfDrive, HasFewDatagrams, IsWithin}
 use Rattle.flow_tally.specs.declared.status.Status.{Status}
 use Rattle.flow_tally.specs.declared.status.Status.TheVariants.{Done, Usage, BadDatagram, TooManyFlows, InputTooLarge, BadScript, PlanTooLarge}
 
@@ -43,39 +45,51 @@ read_more names files contents i name is read well within = record {
 
 module _ (tally : Tally) (names : Names) where
   abbrev SomeForTally : Type 0
-  SomeForTally = (status : Status) × DeterminesTally tally names status
+  SomeForTally = (status : Status) × IsTallyOutcome tally (Some names) status
 
-  -- files that are all good
-  good_files : nodes_of tally ≤ most_nodes → (contents : List (List ℕ)) → contents ≡ map (bytes_under names) tally.files → AreGood contents → SomeForTally
-  good_files fits contents told good =
+  -- contents that are good
+  good_contents : nodes_of tally ≤ most_nodes → (contents : List (List ℕ)) → AreTallied (Some names) tally.source contents → AreGood contents → SomeForTally
+  good_contents fits contents told good =
       let ds = joined_well contents good.each in
       let flows = some_fold (pairs_of (all_records ds.0)) in
       let made : IsTally contents ds.0 flows.0 = record { good = good; file = ds.1; rising = flows.1; fold = flows.2 } in
       elim (cases_lt tally.flows (length flows.0)) [
         | inl many ↦ (TooManyFlows tally.flows, (fits, refl, (contents, ds.0, flows.0, told, made, many)))
-        | inr few ↦ (Done, (fits, report_text flows.0 (totals_of ds.0), (contents, ds.0, flows.0, told, made, few, refl)))
+        | inr few ↦ (Done, (fits, printed tally.source flows.0 (totals_of ds.0), (contents, ds.0, flows.0, told, made, few, refl)))
       ]
 
+module _ (tally : Tally) (names : Names) (files : List (List ℕ)) where
+  abbrev of_files : Tally
+  of_files = record tally { source = Files files }
+
   -- the files left, after those that are good
-  files_read : nodes_of tally ≤ most_nodes → (left : List (List ℕ)) (i : ℕ) (contents : List (List ℕ)) → AreRead names tally.files i contents → drop i tally.files ≡ left → SomeForTally
-  files_read fits [] i contents read rest = good_files fits contents (read.told ∙ ap (map (bytes_under names)) (drop_nothing tally.files i rest)) read.good
+  files_read : nodes_of of_files ≤ most_nodes → (left : List (List ℕ)) (i : ℕ) (contents : List (List ℕ)) → AreRead names files i contents → drop i files ≡ left → SomeForTally of_files names
+  files_read fits [] i contents read rest =
+      good_contents of_files names fits contents (read.told ∙ ap (map (bytes_under names)) (drop_nothing files i rest)) read.good
   files_read fits (name ∷ left) i contents read rest =
       let bytes = bytes_under names name in
-      let next = drop_first tally.files i name [] left rest in
-      let there : slice_get tally.files i ≡ Some name = slice_get-get_or tally.files i [] next.0 ∙ ap (λ (n : List ℕ). Some n) next.1 in
-      let at = next_file (Some names) tally.files contents i name (i + 1) there refl read.count read.told read.good in
+      let next = drop_first files i name [] left rest in
+      let there : slice_get files i ≡ Some name = slice_get-get_or files i [] next.0 ∙ ap (λ (n : List ℕ). Some n) next.1 in
+      let at = next_file (Some names) files contents i name (i + 1) there refl read.count read.told read.good in
       elim (cases_lt most_bytes (length (joined contents) + length bytes)) [
         | inl large ↦ (InputTooLarge (i + 1), (fits, (contents, name, at, large)))
         | inr within ↦ elim (whole_or_bad bytes) [
           | inr (offset, cause, bad) ↦ (BadDatagram (i + 1) offset cause, (fits, (contents, name, bytes, at, record { told = refl; within = within; bad = bad })))
-          | inl well ↦ files_read fits left (i + 1) (contents ++ bytes ∷ []) (read_more names tally.files contents i name there read well within) next.2
+          | inl well ↦ files_read fits left (i + 1) (contents ++ bytes ∷ []) (read_more names files contents i name there read well within) next.2
         ]
       ]
 
-  some_for_tally : SomeForTally
-  some_for_tally = elim (cases_lt most_nodes (nodes_of tally)) [
+module _ (tally : Tally) (names : Names) where
+  -- a plan that fits
+  fitting : (source : Source) → HasFewDatagrams source → nodes_of tally ≤ most_nodes → SomeForTally (record tally { source = source }) names
+  fitting (Files files) within fits = files_read tally names files fits files 0 [] (none_read names files) refl
+  fitting (Generated start datagrams) within fits =
+      good_contents (record tally { source = Generated start datagrams }) names fits (generated start datagrams ∷ []) refl (generated_good start datagrams within)
+
+  some_for_tally : HasFewDatagrams tally.source → SomeForTally tally names
+  some_for_tally within = elim (cases_lt most_nodes (nodes_of tally)) [
     | inl large ↦ (PlanTooLarge (nodes_of tally), (refl, large))
-    | inr fits ↦ files_read fits tally.files 0 [] (none_read names tally.files) refl
+    | inr fits ↦ fitting tally.source within fits
   ]
 
 module _ (drive : Drive) (names : Names) where
@@ -83,7 +97,7 @@ module _ (drive : Drive) (names : Names) where
   file_bytes = bytes_under names drive.file
 
   abbrev SomeForDrive : Type 0
-  SomeForDrive = (status : Status) × DeterminesDrive drive names status
+  SomeForDrive = (status : Status) × IsDriveOutcome drive (Some names) status
 
   script_read : length file_bytes ≤ most_bytes → (reading : Reading) → ReadAs (lines_of file_bytes) reading → SomeForDrive
   script_read within (Good callers entries) reads = (Done, (file_bytes, callers, entries, refl, record { within = within; reads = reads }))
@@ -97,7 +111,7 @@ module _ (drive : Drive) (names : Names) where
   ]
 
 -- words and files determine some status
-pub some_outcome : (asked : Option Command) (names : Names) → (status : Status) × Determines asked names status
-some_outcome None names = (Usage, tt)
-some_outcome (Some (OfTally tally)) names = some_for_tally tally names
-some_outcome (Some (OfDrive drive)) names = some_for_drive drive names
+pub some_outcome : (asked : Option Command) (names : Names) → IsWithin asked → (status : Status) × Determines asked names status
+some_outcome None names within = (Usage, refl)
+some_outcome (Some (OfTally tally)) names within = some_for_tally tally names within
+some_outcome (Some (OfDrive drive)) names within = some_for_drive drive names

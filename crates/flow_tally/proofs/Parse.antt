@@ -1,60 +1,53 @@
 -- From what clap says of a parse to what the words ask for.
-use Rattle.std.specs.Prelude.{◌⊎◌}
-use Rattle.std.proofs.Common.{◌≡◌, ◌∙◌, ap, subst, refl, sym, true, Option, None, List, [], ◌∷◌, inl, inr}
-use Rattle.clap.specs.Words.{Row, Text, App, Kinds, HasKind, IsAmong, fault_of, is_simple_and_free, is_simple, matches_of, kind_of}
+use mathlib.Core.List.{cons≢nil}
+use Rattle.std.specs.Prelude.{◌&&◌}
+use Rattle.std.proofs.Common.{◌≡◌, ◌≢◌, refl, subst, Bool, true, false, Option, None, List, [], ◌∷◌, inl, inr}
+use Rattle.clap.specs.Faults.{is_free_app}
+use Rattle.clap.specs.Words.{App, HasKind, IsAmong, Kinds, Row, Text, fault_of, is_simple, is_simple_and_free, kind_of, matches_of, built}
 use Rattle.clap.specs.declared.error.Error.{Error}
 use Rattle.clap.specs.declared.error.kind.ErrorKind.{ErrorKind}
-use Rattle.clap.specs.declared.error.kind.ErrorKind.TheVariants.{OutOfMemory}
 use Rattle.flow_tally.specs.declared.words.Asked.{Asked}
 use Rattle.flow_tally.specs.declared.words.Asked.TheVariants as asked_as
-use Rattle.flow_tally.specs.Words.{tally_app, tally_faults, tally_rows, drive_app, drive_faults, drive_rows, unless_faulty, Command, Gives, IsRefusal}
-use Rattle.flow_tally.proofs.Rules.{tally_is_free, tally_is_simple, drive_is_free, drive_is_simple}
+use Rattle.flow_tally.specs.Words.{Command, Gives, IsRefusal, RefusesWords, asked_by, faults_in, rows_in, unless_faulty}
 
--- where clap's faults, and the values that it takes, are those of another spelling of the command
-pub tally_faults_are : (a : App) (ws : List Text) → a ≡ tally_app → fault_of a ws ≡ tally_faults ws
-unfolding tally_faults
-tally_faults_are a ws e = ap (λ (x : App). fault_of x ws) e
+pub simple : (app : App) → is_simple_and_free app ≡ true → is_simple app ≡ true
+simple app free = left (is_simple app) (is_free_app (built app)) free
+  where
+    left : (a b : Bool) → (a && b) ≡ true → a ≡ true
+    left true b e = refl
+    left false b e = e
 
-pub tally_rows_are : (a : App) (ws : List Text) → a ≡ tally_app → matches_of a ws ≡ tally_rows ws
-unfolding tally_rows
-tally_rows_are a ws e = ap (λ (x : App). matches_of x ws) e
+pub faults_are : (app : App) (ws : List Text) → fault_of app ws ≡ faults_in app ws
+unfolding faults_in
+faults_are app ws = refl
 
-pub drive_faults_are : (a : App) (ws : List Text) → a ≡ drive_app → fault_of a ws ≡ drive_faults ws
-unfolding drive_faults
-drive_faults_are a ws e = ap (λ (x : App). fault_of x ws) e
+pub rows_are : (app : App) (ws : List Text) → matches_of app ws ≡ rows_in app ws
+unfolding rows_in
+rows_are app ws = refl
 
-pub drive_rows_are : (a : App) (ws : List Text) → a ≡ drive_app → matches_of a ws ≡ drive_rows ws
-unfolding drive_rows
-drive_rows_are a ws e = ap (λ (x : App). matches_of x ws) e
+some_fault : (kinds : Kinds) (k : ErrorKind) → IsAmong k kinds → kinds ≢ []
+some_fault [] k among = absurd among
+some_fault (x ∷ kinds) k among = λ e. absurd (cons≢nil e)
 
-pub free_tally : (a : App) → a ≡ tally_app → is_simple_and_free a ≡ true
-free_tally a e = ap is_simple_and_free e ∙ tally_is_free
+-- a refusal of clap is one of words with faults
+pub refused_by : (kinds : Kinds) (e : Error) (w : Asked) → HasKind kinds e → IsRefusal (kind_of e) w → RefusesWords kinds w
+refused_by kinds e (asked_as.Tally words) has is = absurd is
+refused_by kinds e (asked_as.Drive words) has is = absurd is
+refused_by kinds e asked_as.Usage (inl memory) is = absurd (is memory)
+refused_by kinds e asked_as.Usage (inr among) is = some_fault kinds (kind_of e) among
+refused_by kinds e asked_as.NoMemory has is = tt
 
-pub simple_tally : (a : App) → a ≡ tally_app → is_simple a ≡ true
-simple_tally a e = ap is_simple e ∙ tally_is_simple
+none_asked : (kinds : Kinds) (asked : Option Command) → kinds ≢ [] → unless_faulty kinds asked ≡ None
+none_asked [] asked some = absurd (some refl)
+none_asked (k ∷ kinds) asked some = refl
 
-pub free_drive : (a : App) → a ≡ drive_app → is_simple_and_free a ≡ true
-free_drive a e = ap is_simple_and_free e ∙ drive_is_free
+nothing_given : (kinds : Kinds) (asked : Option Command) (w : Asked) → RefusesWords kinds w → Gives w (unless_faulty kinds asked)
+nothing_given kinds asked (asked_as.Tally words) refuses = absurd refuses
+nothing_given kinds asked (asked_as.Drive words) refuses = absurd refuses
+nothing_given kinds asked asked_as.Usage refuses = none_asked kinds asked refuses
+nothing_given kinds asked asked_as.NoMemory refuses = tt
 
-pub simple_drive : (a : App) → a ≡ drive_app → is_simple a ≡ true
-simple_drive a e = ap is_simple e ∙ drive_is_simple
-
-some_fault : (kinds : Kinds) (k : ErrorKind) (asked : Option Command) → IsAmong k kinds → unless_faulty kinds asked ≡ None
-some_fault [] k asked among = absurd among
-some_fault (x ∷ kinds) k asked among = refl
-
-refused_here : (kinds : Kinds) (k : ErrorKind) (asked : Option Command) (w : Asked) → IsRefusal k w → ((k ≡ OutOfMemory) ⊎ IsAmong k kinds) → Gives w (unless_faulty kinds asked)
-refused_here kinds k asked (asked_as.Tally words) is has = absurd is
-refused_here kinds k asked (asked_as.Drive words) is has = absurd is
-refused_here kinds k asked asked_as.Usage is (inl memory) = absurd (is memory)
-refused_here kinds k asked asked_as.Usage is (inr among) = some_fault kinds k asked among
-refused_here kinds k asked asked_as.NoMemory is has = tt
-
--- a refusal of clap means that the words fit no command, or that memory ran out
-pub refused_gives : (faults kinds : Kinds) (asked : Option Command) (e : Error) (w : Asked) → faults ≡ kinds → HasKind faults e → IsRefusal (kind_of e) w → Gives w (unless_faulty kinds asked)
-refused_gives faults kinds asked e w is has refusal =
-    refused_here kinds (kind_of e) asked w refusal (subst (λ (k : Kinds). HasKind k e) is has)
-
--- where clap found no fault, what the words ask for is what it took from them
-pub taken : (from : List Row → Option Command) (faults kinds : Kinds) (rows found : List Row) → faults ≡ kinds → faults ≡ [] → found ≡ rows → unless_faulty kinds (from rows) ≡ from found
-taken from faults kinds rows found is none same = rw (sym is ∙ none, same) refl
+-- so the words ask for nothing by the definition of this command
+pub refused_gives : (app : App) (from : List Row → Option Command) (ws : List Text) (w : Asked) {a : App} → a ≡ app → RefusesWords (faults_in a ws) w → Gives w (asked_by app from ws)
+refused_gives app from ws w is refuses =
+    nothing_given (faults_in app ws) (from (rows_in app ws)) w (subst (λ (x : App). RefusesWords (faults_in x ws) w) is refuses)

@@ -8,5 +8,6 @@ pub mod Outcome
 pub mod Program
 pub mod Reading
 pub mod Status
+pub mod TallyOutcome
 pub mod Telling
 pub mod Words

@@ -13,3 +13,8 @@ decimal_in least most text =
 abbrev pub number_or : ℕ → ℕ → ℕ → Option (List ℕ) → Option ℕ
 number_or default least most None = Some default
 number_or default least most (Some text) = decimal_in least most text
+
+-- the number given, where one is given that is no larger than this
+abbrev pub number_up_to : ℕ → Option (List ℕ) → Option ℕ
+number_up_to most None = None
+number_up_to most (Some text) = decimal_in 0 most text

@@ -7,8 +7,10 @@ use Rattle.netflow_five.specs.File.{joined, IsFile, IsBad}
 use Rattle.netflow_five.specs.Next.{CameTo}
 use Rattle.netflow_five.specs.declared.file_end.FileEnd.{FileEnd}
 use Rattle.netflow_five.specs.declared.file_end.FileEnd.TheVariants as ending
-use Rattle.flow_tally.specs.Input.{AreContents, AreGood, IsBytesOf, FeedShown, IsReadOut, StopsAt}
+use Rattle.flow_tally.specs.Input.{AreGood, IsBytesOf, FeedShown, IsReadOut, StopsAt}
 use Rattle.flow_tally.specs.Gathered.{HasGathered}
+use Rattle.flow_tally.specs.TallyOutcome.{AreTallied, files_in}
+use Rattle.flow_tally.specs.Words.{Source}
 use Rattle.flow_tally.specs.declared.status.Status.{Status}
 use Rattle.flow_tally.specs.declared.status.Status.TheVariants.{OpenFault, ReadFault, BadDatagram, InputTooLarge, NoMemory}
 use Rattle.flow_tally.specs.declared.gathered.Gathered.{Gathered}
@@ -42,10 +44,10 @@ pub record IsGatheredOf (contents ds : List (List ℕ)) (gathered : Gathered) : 
   pub file : IsFile (joined contents) ds
   pub all : HasGathered ds gathered
 
--- all files were read and gathered
-abbrev pub HasRead : FeedShown → List (List ℕ) → Gathered → Type 0
-HasRead feed files gathered = IsReadOut (length files) feed
-    × (contents : List (List ℕ)) × (ds : List (List ℕ)) × AreContents feed.names files contents × IsGatheredOf contents ds gathered
+-- all files were read, and what is tallied was gathered
+abbrev pub HasRead : FeedShown → Source → Gathered → Type 0
+HasRead feed source gathered = IsReadOut (length (files_in source)) feed
+    × (contents : List (List ℕ)) × (ds : List (List ℕ)) × AreTallied feed.names source contents × IsGatheredOf contents ds gathered
 
 -- the status of a file that wasn't added
 abbrev pub status_of : ℕ → FileEnd → Status

@@ -9,7 +9,7 @@ pub struct Answer {
     /// The whole output.
     pub text: Vec<u8>,
     /// The shared object on which the calls were made.
-    pub closed: Option<Closed>,
+    pub closed: Closed,
 }
 
 /// How a run ended.

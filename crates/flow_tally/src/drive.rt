@@ -1,9 +1,9 @@
-ghost use Rattle.std.specs.Prelude.{IfErr, MatchResult};
-ghost use Rattle.flow_tally.specs.DriveOutcome.{DriveSays, Drives, RefusesDrive, GivesScriptText};
+ghost use Rattle.std.specs.Prelude.{Some, IfErr, MatchResult};
+ghost use Rattle.flow_tally.specs.DriveOutcome.{GivesScriptText};
 ghost use Rattle.flow_tally.specs.Input.{feed_shown};
 ghost use Rattle.flow_tally.specs.OutShown.{out_shown};
-ghost use Rattle.flow_tally.specs.Outcome.{LeavesFeed};
-ghost use Rattle.flow_tally.specs.Words.{drive_in};
+ghost use Rattle.flow_tally.specs.Outcome.{LeavesFeed, Prints, Refuses, Says};
+ghost use Rattle.flow_tally.specs.Words.{OfDrive, drive_in};
 
 use crate::answer::{Answer, Ended};
 use crate::drive_words::DriveWords;
@@ -37,10 +37,7 @@ fn answer_of<R: Threads + Sync, G: Gate>(
     };
     let Ran { driven, closed } = ran;
     match write_replies(alloc, &driven) {
-        Ok(text) => Ok(Answer {
-            text,
-            closed: Some(closed),
-        }),
+        Ok(text) => Ok(Answer { text, closed }),
         Err(_) => Err(Status::NoMemory),
     }
 }
@@ -53,9 +50,10 @@ fn drive_file<R: Threads + Sync, F: Feed, G: Gate>(
     feed: &mut F,
     gate: &G,
 ) -> Result<Answer, Status>
-    ensures answer { MatchResult result (λ answer. Drives (drive_in words.now) (feed_shown F.files F.faults F.failed F.current F.started F.left feed.old feed.new) answer.closed answer.text.items)
-        (RefusesDrive (drive_in words.now) (feed_shown F.files F.faults F.failed F.current F.started F.left feed.old feed.new)) }
-    ensures business { IfErr result (λ status. ¬ LeavesFeed status) }
+    ensures answer { MatchResult result
+        (λ answer. Prints (Some (OfDrive (drive_in words.now))) (feed_shown F.files F.faults F.failed F.current F.started F.left feed.old feed.new) answer.closed answer.text.items)
+        (Refuses (Some (OfDrive (drive_in words.now))) (feed_shown F.files F.faults F.failed F.current F.started F.left feed.old feed.new)) }
+    ensures business { IfErr result (λ status. ¬ LeavesFeed (Some (OfDrive (drive_in words.now))) status) }
 {
     match read_file(alloc, feed, 1, words.file.as_str(), MOST_BYTES) {
         Ok(bytes) => answer_of(rt, alloc, words, &bytes, gate),
@@ -72,11 +70,11 @@ pub fn drive<R: Threads + Sync, F: Feed, O: Sink, G: Gate>(
     out: &mut O,
     gate: &G,
 ) -> Ended
-    ensures says { DriveSays (drive_in words.now)
+    ensures says { Says (Some (OfDrive (drive_in words.now)))
         (feed_shown F.files F.faults F.failed F.current F.started F.left feed.old feed.new)
         (out_shown O.faults O.taken out.old out.new)
         result.closed result.status }
-    ensures business { ¬ LeavesFeed result.status }
+    ensures business { ¬ LeavesFeed (Some (OfDrive (drive_in words.now))) result.status }
 {
     match drive_file(rt, alloc, words, feed, gate) {
         Ok(answer) => write_output(out, answer),

@@ -2,6 +2,7 @@ ghost use Rattle.std.specs.Prelude.{◌≡◌, ◌+◌, ◌<◌, ◌≤◌, ◌^
 ghost use Rattle.std.specs.String.{string_bytes};
 ghost use Rattle.flow_tally.specs.Input.{feed_shown, RefusesFiles};
 ghost use Rattle.flow_tally.specs.Reading.{Reads, AddsFile, HasRead, status_of};
+ghost use Rattle.flow_tally.specs.Words.{Files};
 
 use crate::gathered::Gathered;
 use crate::status::Status;
@@ -77,13 +78,13 @@ fn add_file<F: Feed>(
     }
 }
 
-/// Reads the files in order and tallies them.
+/// Reads the files in order and gathers their datagrams.
 pub fn read_files<F: Feed>(
     alloc: Global,
     feed: &mut F,
     files: &[String],
 ) -> Result<Gathered, Status>
-    ensures read { MatchResult result (HasRead (feed_shown F.files F.faults F.failed F.current F.started F.left feed.old feed.new) (map string_bytes files.now))
+    ensures read { MatchResult result (HasRead (feed_shown F.files F.faults F.failed F.current F.started F.left feed.old feed.new) (Files (map string_bytes files.now)))
         (RefusesFiles (map string_bytes files.now) (feed_shown F.files F.faults F.failed F.current F.started F.left feed.old feed.new)) }
     ensures files { F.files feed.new ≡ F.files feed.old }
     ensures later { F.faults feed.old ≤ F.faults feed.new }

@@ -1,4 +1,4 @@
-ghost use Rattle.std.specs.Prelude.{◌≡◌};
+ghost use Rattle.std.specs.Prelude.{◌≡◌, Some};
 ghost use Rattle.flow_tally.specs.OutShown.{out_shown, Took};
 
 use crate::answer::{Answer, Ended};
@@ -8,7 +8,7 @@ use wire_ports::{Sink, put_all};
 /// Writes the whole output, and tells how that ended.
 pub(crate) fn write_output<O: Sink>(out: &mut O, answer: Answer) -> Ended
     ensures took { Took answer.text.items (out_shown O.faults O.taken out.old out.new) result.status }
-    ensures closed { result.closed ≡ answer.closed }
+    ensures closed { result.closed ≡ Some answer.closed }
 {
     let Answer { text, closed } = answer;
     let status = match put_all(out, &text) {
@@ -17,5 +17,8 @@ pub(crate) fn write_output<O: Sink>(out: &mut O, answer: Answer) -> Ended
             written: failed.written,
         },
     };
-    Ended { status, closed }
+    Ended {
+        status,
+        closed: Some(closed),
+    }
 }

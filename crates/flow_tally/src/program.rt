@@ -9,6 +9,7 @@ ghost use Rattle.flow_tally.specs.Outcome.{LeavesFeed};
 ghost use Rattle.flow_tally.specs.Program.{EndsAs, IsWanting, words_given};
 ghost use Rattle.flow_tally.specs.Status.{exit_code_of};
 ghost use Rattle.flow_tally.specs.Telling.{Tells};
+ghost use Rattle.flow_tally.specs.Words.{words_asked};
 ghost use Rattle.step_rules.specs.Closing.{ClosedData};
 
 use crate::answer::Ended;
@@ -66,7 +67,7 @@ fn run_with<R: Threads + Sync, F: Feed, O: Sink, E: Sink, G: Gate>(
         (feed_shown F.files F.faults F.failed F.current F.started F.left feed.old feed.new)
         (out_shown O.faults O.taken out.old out.new)
         result.closed result.status }
-    ensures untouched { LeavesFeed result.status → feed.new ≡ feed.old }
+    ensures untouched { LeavesFeed (words_asked (map string_bytes (words_given (λ given. into_iter_items given) args))) result.status → feed.new ≡ feed.old }
     ensures message { Tells (message_of result.status) (E.taken err.old) (E.taken err.new) (E.faults err.old) (E.faults err.new) }
 {
     match words_of(alloc, args) {
@@ -91,7 +92,7 @@ pub fn exit_code<R: Threads + Sync, F: Feed, O: Sink, E: Sink, G: Gate>(
         (feed_shown F.files F.faults F.failed F.current F.started F.left feed.old feed.new)
         (out_shown O.faults O.taken out.old out.new)
         closed status
-        × (LeavesFeed status → feed.new ≡ feed.old)
+        × (LeavesFeed (words_asked (map string_bytes (words_given (λ given. into_iter_items given) args))) status → feed.new ≡ feed.old)
         × Tells (message_of status) (E.taken err.old) (E.taken err.new) (E.faults err.old) (E.faults err.new) }
 {
     run_with(rt, alloc, args, feed, out, err, gate)

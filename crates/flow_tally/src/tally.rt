@@ -1,21 +1,26 @@
-ghost use Rattle.std.specs.Prelude.{◌≡◌, ◌≤◌, ◌^◌, List, ℕ, IfErr, MatchResult};
-ghost use Rattle.flow_tally.specs.Input.{feed_shown};
+ghost use Rattle.std.specs.Prelude.{◌≡◌, ◌≤◌, ◌^◌, List, ℕ, Some, IfOk, MatchResult};
+ghost use Rattle.flow_fold.specs.Flows.{HasRisingKeys};
+ghost use Rattle.flow_tally.specs.Input.{feed_shown, RefusesFiles};
 ghost use Rattle.flow_tally.specs.OutShown.{out_shown};
-ghost use Rattle.flow_tally.specs.Outcome.{nodes_of, Reports, Refuses, TallySays, GivesText, LeavesFeed};
-ghost use Rattle.flow_tally.specs.Reading.{IsGatheredOf};
-ghost use Rattle.flow_tally.specs.Words.{tally_in};
+ghost use Rattle.flow_tally.specs.Outcome.{LeavesFeed, Prints, Refuses, Says};
+ghost use Rattle.flow_tally.specs.Reading.{HasRead, IsGatheredOf};
+ghost use Rattle.flow_tally.specs.TallyOutcome.{GivesText, IsGenerated, files_in, nodes_of, printed};
+ghost use Rattle.flow_tally.specs.Words.{OfTally, source_in, tally_in};
 
 use crate::answer::{Answer, Ended};
 use crate::gathered::Gathered;
+use crate::generated::gather_generated;
 use crate::input::read_files;
 use crate::output::write_output;
+use crate::source::Source;
 use crate::status::Status;
 use crate::tally_words::TallyWords;
-use flow_report::{Totals, report};
+use flow_fold::{Key, Value};
+use flow_report::{Totals, report, report_last_line};
 use std::alloc::Global;
 use std::thread::Threads;
 use tally_core::{Tallied, TallyEnd, tally as add_up};
-use wire_ports::{Feed, Sink};
+use wire_ports::{Feed, NoMemory, Sink};
 use worker_gate::Gate;
 
 /// The most nodes of a table.
@@ -30,8 +35,39 @@ fn nodes(words: &TallyWords) -> u64
     workers * share + u64::from(words.buckets)
 }
 
-/// The report of what was gathered, added up by the workers, where it has no more flows than it may
-/// have.
+/// The pairs of the files, or of the datagrams that are generated.
+fn gather<F: Feed>(alloc: Global, feed: &mut F, source: &Source) -> Result<Gathered, Status>
+    ensures read { MatchResult result (HasRead (feed_shown F.files F.faults F.failed F.current F.started F.left feed.old feed.new) (source_in source.now))
+        (RefusesFiles (files_in (source_in source.now)) (feed_shown F.files F.faults F.failed F.current F.started F.left feed.old feed.new)) }
+    ensures untouched { IsGenerated (source_in source.now) → feed.new ≡ feed.old }
+{
+    match source {
+        Source::Files(names) => read_files(alloc, feed, names),
+        Source::Generated(generator) => match gather_generated(alloc, generator) {
+            Ok(gathered) => Ok(gathered),
+            Err(_) => Err(Status::NoMemory),
+        },
+    }
+}
+
+/// The report of the flows, or its last line alone where the datagrams were generated.
+fn print(
+    alloc: Global,
+    source: &Source,
+    flows: &[(Key, Value)],
+    totals: &Totals,
+) -> Result<Vec<u8>, NoMemory>
+    requires { HasRisingKeys flows.now }
+    ensures { IfOk result (λ text. text.items ≡ printed (source_in source.now) flows.now totals.now) }
+{
+    match source {
+        Source::Files(_) => report(alloc, flows, totals),
+        Source::Generated(_) => report_last_line(alloc, flows, totals),
+    }
+}
+
+/// What is printed of the pairs that were gathered, once the workers added them up, where they have no
+/// more flows than they may.
 fn answer_of<R: Threads + Sync, G: Gate>(
     rt: &R,
     alloc: Global,
@@ -62,36 +98,35 @@ fn answer_of<R: Threads + Sync, G: Gate>(
         records: gathered.pairs.len() as u64,
         datagrams: gathered.datagrams,
     };
-    match report(alloc, flows.as_slice(), &totals) {
-        Ok(text) => Ok(Answer {
-            text,
-            closed: Some(closed),
-        }),
+    match print(alloc, &words.source, flows.as_slice(), &totals) {
+        Ok(text) => Ok(Answer { text, closed }),
         Err(_) => Err(Status::NoMemory),
     }
 }
 
-/// The report of the files.
-fn tally_files<R: Threads + Sync, F: Feed, G: Gate>(
+/// What is printed of the tally.
+fn tally_source<R: Threads + Sync, F: Feed, G: Gate>(
     rt: &R,
     alloc: Global,
     words: &TallyWords,
     feed: &mut F,
     gate: &G,
 ) -> Result<Answer, Status>
-    ensures answer { MatchResult result (λ answer. Reports (tally_in words.now) (feed_shown F.files F.faults F.failed F.current F.started F.left feed.old feed.new) answer.closed answer.text.items)
-        (Refuses (tally_in words.now) (feed_shown F.files F.faults F.failed F.current F.started F.left feed.old feed.new)) }
-    ensures untouched { IfErr result (λ status. LeavesFeed status → feed.new ≡ feed.old) }
+    ensures answer { MatchResult result
+        (λ answer. Prints (Some (OfTally (tally_in words.now))) (feed_shown F.files F.faults F.failed F.current F.started F.left feed.old feed.new) answer.closed answer.text.items)
+        (Refuses (Some (OfTally (tally_in words.now))) (feed_shown F.files F.faults F.failed F.current F.started F.left feed.old feed.new)) }
+    ensures untouched { MatchResult result (λ _. IsGenerated (source_in words.now.source) → feed.new ≡ feed.old)
+        (λ status. LeavesFeed (Some (OfTally (tally_in words.now))) status → feed.new ≡ feed.old) }
 {
     let nodes = nodes(words);
     if nodes > MOST_NODES {
         return Err(Status::PlanTooLarge { nodes });
     }
-    let gathered = read_files(alloc, feed, &words.files)?;
+    let gathered = gather(alloc, feed, &words.source)?;
     answer_of(rt, alloc, words, &gathered, gate)
 }
 
-/// Tallies the files, and writes the report once it is whole.
+/// Tallies the files, or what is generated, and writes what is printed of it once that is whole.
 pub fn tally<R: Threads + Sync, F: Feed, O: Sink, G: Gate>(
     rt: &R,
     alloc: Global,
@@ -100,13 +135,13 @@ pub fn tally<R: Threads + Sync, F: Feed, O: Sink, G: Gate>(
     out: &mut O,
     gate: &G,
 ) -> Ended
-    ensures says { TallySays (tally_in words.now)
+    ensures says { Says (Some (OfTally (tally_in words.now)))
         (feed_shown F.files F.faults F.failed F.current F.started F.left feed.old feed.new)
         (out_shown O.faults O.taken out.old out.new)
         result.closed result.status }
-    ensures untouched { LeavesFeed result.status → feed.new ≡ feed.old }
+    ensures untouched { LeavesFeed (Some (OfTally (tally_in words.now))) result.status → feed.new ≡ feed.old }
 {
-    match tally_files(rt, alloc, words, feed, gate) {
+    match tally_source(rt, alloc, words, feed, gate) {
         Ok(answer) => write_output(out, answer),
         Err(status) => Ended::refused(status),
     }

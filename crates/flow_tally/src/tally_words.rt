@@ -1,20 +1,22 @@
 ghost use Rattle.std.specs.Prelude.{◌≤◌};
 
+use crate::source::Source;
+
 /// The most workers.
 pub(crate) const MOST_WORKERS: u32 = 64;
 
 /// The most flows, and the most buckets.
 pub(crate) const MOST_FLOWS: u32 = 1 << 20;
 
-/// What the words of a tally ask for.
+/// What the words of a tally, or of a trial, ask for.
 #[derive(Debug, Drop)]
 pub struct TallyWords {
     pub workers: u32,
     /// The most flows that it may have.
     pub flows: u32,
     pub buckets: u32,
-    /// The names of the files, in the order in which they are read.
-    pub files: Vec<String>,
+    /// Where its datagrams come from.
+    pub source: Source,
     ghost some_workers: { 1 ≤ workers },
     ghost few_workers: { workers ≤ 64 },
     ghost some_flows: { 1 ≤ flows },

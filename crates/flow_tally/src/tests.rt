@@ -2,6 +2,7 @@
 
 mod devices;
 mod scripts;
+mod trials;
 mod workers;
 
 use crate::status::Status;

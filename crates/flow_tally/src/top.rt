@@ -3,7 +3,7 @@ ghost use Rattle.std.specs.String.{string_bytes};
 ghost use Rattle.flow_tally.specs.Message.{message_of};
 ghost use Rattle.flow_tally.specs.Input.{feed_shown};
 ghost use Rattle.flow_tally.specs.OutShown.{out_shown};
-ghost use Rattle.flow_tally.specs.Outcome.{Says, Determines, IsDecided, HasOutput, IsReportOf, LeavesFeed};
+ghost use Rattle.flow_tally.specs.Outcome.{Says, Determines, IsDecided, HasOutput, IsPrintedOf, LeavesFeed};
 ghost use Rattle.flow_tally.specs.Telling.{Tells};
 ghost use Rattle.flow_tally.specs.Words.{words_asked};
 ghost use Rattle.wire_ports.specs.Bytes.{Appends};
@@ -33,7 +33,7 @@ fn answer<R: Threads + Sync, F: Feed, O: Sink, G: Gate>(
         (feed_shown F.files F.faults F.failed F.current F.started F.left feed.old feed.new)
         (out_shown O.faults O.taken out.old out.new)
         result.closed result.status }
-    ensures untouched { LeavesFeed result.status → feed.new ≡ feed.old }
+    ensures untouched { LeavesFeed (words_asked (map string_bytes words.now)) result.status → feed.new ≡ feed.old }
 {
     match read_words(alloc, words) {
         Asked::Tally(words) => tally(rt, alloc, &words, feed, out, gate),
@@ -64,9 +64,9 @@ pub fn run<R: Threads + Sync, F: Feed, O: Sink, E: Sink, G: Gate>(
         → (result.status ≡ status) ⊎ (result.status ≡ Status.NoMemory) }
     ensures output { (names : Names) → F.files feed.old ≡ Some names
         → HasOutput (words_asked (map string_bytes words.now)) names (out_shown O.faults O.taken out.old out.new) result.closed result.status }
-    ensures report { (names : Names) (text : List ℕ) → F.files feed.old ≡ Some names → IsReportOf (words_asked (map string_bytes words.now)) names text
+    ensures report { (names : Names) (text : List ℕ) → F.files feed.old ≡ Some names → IsPrintedOf (words_asked (map string_bytes words.now)) names text
         → result.status ≡ Status.Done → Appends (O.taken out.old) text (O.taken out.new) }
-    ensures untouched { LeavesFeed result.status → feed.new ≡ feed.old }
+    ensures untouched { LeavesFeed (words_asked (map string_bytes words.now)) result.status → feed.new ≡ feed.old }
     ensures message { Tells (message_of result.status) (E.taken err.old) (E.taken err.new) (E.faults err.old) (E.faults err.new) }
 {
     let ended = answer(rt, alloc, words, feed, out, gate);

@@ -1,0 +1,9 @@
+use Rattle.std.proofs.Common.{Some}
+use Rattle.flow_tally.specs.Words.{OfTally, tally_in}
+use Rattle.flow_tally.proofs.OutcomeEnds.{written_says}
+use Rattle.flow_tally.proofs.tally.tally.Goals as goal
+
+pub returns-in-Ok-clause-says : goal.returns-in-Ok-clause-says
+returns-in-Ok-clause-says g c =
+    let took = c.write_output.ensures in
+    written_says (Some (OfTally (tally_in c.args.words.now))) _ _ c.in-Ok.answer.closed c.in-Ok.answer.text.items c.write_output.result.status took.closed c.in-Ok.ensures.answer took.took
