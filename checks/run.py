@@ -3,13 +3,12 @@
 
 usage: checks/run.py [PROGRAM]
 
-What a run must write comes from a fold and a plain object written here, apart from the program.
+What a run must write comes from a fold, a generator and a plain object written here, apart from the program.
 Without PROGRAM it takes crates/flow_tally/out/flow_tally, which it has `rt run` build where it is
 missing. It needs Python's own library alone, and ends with status 1 where a check fails.
 """
 import os
 import random
-import resource
 import struct
 import subprocess
 import sys
@@ -17,14 +16,12 @@ import tempfile
 
 sys.dont_write_bytecode = True  # the repository stays as it was
 import fold
-import orders
+import recipes
 import scripts
+import trials
+from running import USAGE, Checks, closed_pipe, little_memory
 
 TOP = os.path.dirname(os.path.dirname(os.path.abspath(__file__)))
-USAGE = (
-    "flow_tally: usage: tally [--workers W] [--flows F] [--buckets B] FILE... or drive [--buckets B] [--share Q] FILE"
-    " or trial [--workers W] [--flows F] [--buckets B] START N\n"
-)
 MOST_BYTES = 1 << 28
 
 
@@ -35,62 +32,6 @@ def built_program() -> str:
     if not os.path.isfile(program):
         subprocess.run(["rt", "run", "--", "tally", "data/one_record.nf5"], cwd=folder, stdout=subprocess.DEVNULL, check=True)
     return program
-
-
-class Checks:
-    """Runs the program in a folder of its own, and counts what wasn't as it must be."""
-
-    def __init__(self, program: str, folder: str) -> None:
-        self.program = program
-        self.folder = folder
-        self.made = 0
-        self.failed = 0
-
-    def file(self, name: str, data: bytes) -> str:
-        with open(os.path.join(self.folder, name), "wb") as out:
-            out.write(data)
-        return name
-
-    def ends(self, what: str, words: list, status: int, out: bytes = b"", err: str = "", **how) -> None:
-        """The program, run with these words, ends with this status and writes this to its streams."""
-        ran = subprocess.run(
-            [self.program, *words], cwd=self.folder, stdin=subprocess.DEVNULL, timeout=120,
-            stdout=how.get("stdout", subprocess.PIPE), stderr=how.get("stderr", subprocess.PIPE), preexec_fn=how.get("before"),
-        )
-        self.is_same(what + ": status", ran.returncode, status)
-        if "stdout" not in how:
-            self.is_same(what + ": standard output", ran.stdout, out)
-        if "stderr" not in how:
-            self.is_same(what + ": standard error", ran.stderr, err.encode())
-
-    def explains(self, what: str, script: bytes, share: int, buckets: int) -> None:
-        """An order of the script's calls explains what the program writes."""
-        words = ["drive", "--share", str(share), "--buckets", str(buckets), self.file("script", script)]
-        ran = subprocess.run([self.program, *words], cwd=self.folder, capture_output=True, timeout=120)
-        self.is_same(f"a script, {what}: status", ran.returncode, 0)
-        self.is_same(f"a script, {what}: an order explains it", orders.is_explained(script, ran.stdout, share, buckets), True)
-
-    def is_same(self, what: str, found, wanted) -> None:
-        self.made += 1
-        if found != wanted:
-            self.failed += 1
-            print(f"FAILED {what}: {shown(found)}, and not {shown(wanted)}")
-
-
-def shown(value) -> str:
-    text = repr(value)
-    return text if len(text) <= 120 else f"{text[:120]}.. ({len(value)} long)"
-
-
-def closed_pipe() -> int:
-    """The writing end of a pipe that nobody reads."""
-    reader, writer = os.pipe()
-    os.close(reader)
-    return writer
-
-
-def little_memory() -> None:
-    resource.setrlimit(resource.RLIMIT_AS, (64 << 20, 64 << 20))
 
 
 def tallies(checks: Checks) -> None:
@@ -190,6 +131,8 @@ def main() -> None:
         bad_files(checks, one, data)
         bad_streams(checks, one)
         drives(checks)
+        trials.trials(checks)
+        recipes.recipes(checks, TOP)
     print(f"checks: {checks.made - checks.failed} passed, {checks.failed} failed")
     sys.exit(1 if checks.failed else 0)
 
