@@ -1,4 +1,6 @@
-ghost use Rattle.std.specs.Prelude.{◌≡◌, ◌<◌};
+ghost use Rattle.std.specs.Prelude.{◌≡◌, ◌≢◌, ◌<◌};
+ghost use Rattle.step_rules.specs.Claims.{OWN};
+ghost use Rattle.step_rules.specs.declared.view.Stage.TheVariants.{Locked};
 ghost use Rattle.hazard_claims.specs.Claiming.{IsAnnounced, IsReleased, Rechecked, claim_number};
 ghost use Rattle.step_rules.specs.Kinds.Walking.{MayRecheck};
 ghost use Rattle.step_rules.specs.Layout.{cells};
@@ -66,6 +68,7 @@ pub fn recheck(shared: &Shared, seat: &mut Seat, claim: Claim, cell: u32, seen: 
 /// Ends a claim.
 pub fn release(shared: &Shared, seat: &mut Seat, claim: Claim)
     requires ours { IsOf shared.now seat.old }
+    requires unlocked { claim_number claim ≡ OWN → seat.old.view.writer.stage ≢ Locked }
     ensures released { IsReleased claim seat.old seat.new }
     ensures law { IsSeat seat.new }
 {

@@ -1,8 +1,15 @@
+pub mod Agreeing
+pub mod Beside
 pub mod Claiming
+pub mod Copies
 pub mod Exchanges
 pub mod Joins
 pub mod Loads
+pub mod Locks
 pub mod Looks
+pub mod Marks
+pub mod Reads
+pub mod Releases
 pub mod Scans
 pub mod Splits
 pub mod Stores

@@ -1,5 +1,8 @@
 pub mod Advance
 pub mod Claimed
+pub mod Flights
 pub mod Moments
 pub mod Owed
+pub mod Readers
 pub mod Seeing
+pub mod Writers

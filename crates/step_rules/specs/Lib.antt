@@ -2,6 +2,7 @@ pub mod Bags
 pub mod Cells
 pub mod Claims
 pub mod Closing
+pub mod Flights
 pub mod Fronts
 pub mod History
 pub mod Holding
@@ -13,6 +14,7 @@ pub mod Looks
 pub mod Nodes
 pub mod Order
 pub mod Plays
+pub mod Readers
 pub mod Records
 pub mod Rule
 pub mod Scans
@@ -24,5 +26,7 @@ pub mod Steps
 pub mod Stock
 pub mod Stood
 pub mod Trail
+pub mod Versions
 pub mod Views
 pub mod World
+pub mod Writers

@@ -7,12 +7,13 @@ use Rattle.step_rules.specs.Claims.{Tells, WALK}
 use Rattle.step_rules.specs.Kinds.Backup.{Looks, Wins}
 use Rattle.step_rules.specs.Kinds.Claiming.{FindsOwn, Frees, Rechecks}
 use Rattle.step_rules.specs.Kinds.Node.{Reads}
+use Rattle.step_rules.specs.Kinds.Versions.{EndsRead}
 use Rattle.step_rules.specs.Kinds.Walking.{WalkRechecks}
-use Rattle.step_rules.specs.Layout.{backup_at, claim_at, node_at}
+use Rattle.step_rules.specs.Layout.{backup_at, claim_at, inline_at, node_at, version_at}
 use Rattle.step_rules.specs.Sound.{Sound}
-use Rattle.step_rules.specs.Views.{announced_view, claim_of, cleared_view, number, scanned_view, loaded_view, stood_view, stored_view}
+use Rattle.step_rules.specs.Views.{again_view, announced_view, claim_of, cleared_view, copied_view, inline_view, locked_view, missed_view, number, released_view, scanned_view, loaded_view, stood_view, stored_view, version_view}
 use Rattle.step_rules.specs.declared.layout.TheConstants.{CLAIMS, NODE_WIDTH}
-use Rattle.step_rules.specs.declared.view.Kind.TheVariants.{BackupLoad, BackupExchange}
+use Rattle.step_rules.specs.declared.view.Kind.TheVariants.{BackupLoad, BackupExchange, MarkClear}
 use Rattle.step_rules.specs.declared.view.View.{View}
 
 abbrev pub Mine : Type 0
@@ -29,6 +30,10 @@ stored st m x m' = Told m m' ((n j : ℕ) → st.word ≡ node_at m.0.plan n j �
 -- NODE LOAD
 abbrev pub loaded : Step Call → Mine → ℕ → Mine → Type 0
 loaded st m x m' = Told m m' ((n j : ℕ) → st.word ≡ node_at m.0.plan n j → j < NODE_WIDTH → (m'.0 ≡ loaded_view n j x m.0) × Reads n j x m.0)
+
+-- a load of a node's word that isn't counted
+abbrev pub glanced : Step Call → Mine → ℕ → Mine → Type 0
+glanced st m x m' = Told m m' ((n j : ℕ) → st.word ≡ node_at m.0.plan n j → j < NODE_WIDTH → (m'.0 ≡ m.0) × Reads n j x m.0)
 
 -- BACKUP LOAD
 abbrev pub looked : Step Call → Mine → ℕ → Mine → Type 0
@@ -67,6 +72,34 @@ scanned st m x m' = Told m m'
 -- STAND, a load of word 0
 abbrev pub stood : ℕ → Call → Reply → Step Call → Mine → ℕ → Mine → Type 0
 stood q call reply st m x m' = Told m m' (st.word ≡ 0 → m'.0 ≡ stood_view q call reply m.0)
+
+-- VERSION LOAD
+abbrev pub version_loaded : Step Call → Mine → ℕ → Mine → Type 0
+version_loaded st m x m' = Told m m' ((k : ℕ) → st.word ≡ version_at m.0.plan k → m'.0 ≡ version_view k x m.0)
+
+-- INLINE LOAD
+abbrev pub inline_loaded : Step Call → Mine → ℕ → Mine → Type 0
+inline_loaded st m x m' = Told m m' ((k j : ℕ) → st.word ≡ inline_at m.0.plan k j → j < NODE_WIDTH → m'.0 ≡ inline_view k j x m.0)
+
+-- VERSION AGAIN
+abbrev pub loaded_again : Step Call → Mine → ℕ → Mine → Type 0
+loaded_again st m x m' = Told m m' ((k : ℕ) → st.word ≡ version_at m.0.plan k → (m'.0 ≡ again_view k x m.0) × EndsRead k x m.0)
+
+-- VERSION LOCK
+abbrev pub locked : Step Call → Mine → ℕ → Mine → Type 0
+locked st m x m' = Told m m' ((k : ℕ) → st.word ≡ version_at m.0.plan k → (x ≡ st.first → m'.0 ≡ locked_view k st.first m.0) × (x ≢ st.first → m'.0 ≡ missed_view k st.first x m.0))
+
+-- INLINE STORE
+abbrev pub copied : Step Call → Mine → ℕ → Mine → Type 0
+copied st m x m' = Told m m' ((k j : ℕ) → st.word ≡ inline_at m.0.plan k j → j < NODE_WIDTH → m'.0 ≡ copied_view k j x m.0)
+
+-- VERSION RELEASE; the number stored is the locked version and 2
+abbrev pub released : Step Call → Mine → ℕ → Mine → Type 0
+released st m x m' = Told m m' ((k u : ℕ) → st.word ≡ version_at m.0.plan k → x ≡ u + 2 → m'.0 ≡ released_view k u m.0)
+
+-- MARK CLEAR, which is a look in any case
+abbrev pub unmarked : Step Call → Mine → ℕ → Mine → Type 0
+unmarked st m x m' = Told m m' ((k n : ℕ) → st.word ≡ backup_at m.0.plan k → st.first ≡ 2 * n + 1 → Looks (MarkClear k n) k x m.0 m'.0)
 
 -- a load that changes nothing
 abbrev pub settled : Step Call → Mine → ℕ → Mine → Type 0

@@ -1,5 +1,5 @@
 -- The rule of the table.
-use Rattle.std.specs.Prelude.{◌≡◌, ℕ, ◌+◌, ◌*◌, ◌≤◌, List, [], length, take, drop, nat_lt, slice_index, if◌then◌else◌}
+use Rattle.std.specs.Prelude.{◌≡◌, ℕ, ◌+◌, ◌*◌, ◌<◌, ◌≤◌, List, [], length, take, drop, nat_lt, slice_index, if◌then◌else◌}
 use Rattle.std.specs.List.{sum_by}
 use mathlib.Core.Option.{some}
 use lib.ListN.{get_elem?}
@@ -10,6 +10,7 @@ use Rattle.step_rules.specs.Claims.{Guards}
 use Rattle.step_rules.specs.History.{IsHistory}
 use Rattle.step_rules.specs.Layout.{IsPlan, backup_at, cells, nodes_at, version_at, words}
 use Rattle.step_rules.specs.Seats.{SeatOk}
+use Rattle.step_rules.specs.Versions.{VersionedAt}
 use Rattle.step_rules.specs.World.{Unwritten, World}
 use Rattle.step_rules.specs.declared.layout.TheConstants.{CLAIMS, NODE_WIDTH}
 use Rattle.step_rules.specs.declared.plan.Plan.{Plan}
@@ -46,6 +47,10 @@ world_of p ws U = record {
   log = U.log;
   word = claim_word p ws;
   guard = U.guard;
+  version = version_word p ws;
+  inline = inline_words p ws;
+  locker = U.locker;
+  source = U.source;
 }
 
 -- the rule over the words, the views, and what no word says
@@ -53,9 +58,12 @@ pub record HoldsAt (p : Plan) (ws : List ℕ) (vs : List View) (U : Unwritten) :
   pub plan : IsPlan p
   pub wide : length ws ≡ words p
   pub history : IsHistory p U.log
+  pub versions : (k : ℕ) → k < cells p → VersionedAt p (world_of p ws U) k
   pub cells : CellsAgree p (world_of p ws U)
   pub guards : Guards p (claim_word p ws) U.guard
   pub seats : (s : ℕ) (v : View) → get_elem? vs s ≡ some v → SeatOk p (world_of p ws U) s v
+  -- a locker is a seat
+  pub lockers : (k s : ℕ) → U.locker k ≡ s + 1 → s < length vs
   -- what happened, and the changes that the seats have left, are no more than the plan allows
   pub budget : length U.log + sum_by (λ (v : View). v.changes) vs ≤ p.seats * p.changes
 

@@ -1,17 +1,20 @@
 -- What the rule says of each seat, and what the steps of other seats leave of it.
 use Rattle.std.specs.Prelude.{◌≡◌, ℕ, ◌+◌, ◌/◌, ◌<◌, ◌≤◌, true, List, ◌++◌, length}
 use Rattle.seat_history.specs.declared.entry.Entry.{Entry}
-use Rattle.step_rules.specs.Claims.{SeatClaims, Tells}
+use Rattle.step_rules.specs.Claims.{OWN, SeatClaims}
 use Rattle.step_rules.specs.History.{GoesOn, NoneBy, NoneOn}
 use Rattle.step_rules.specs.Layout.{claim_at}
 use Rattle.step_rules.specs.Lawful.{Lawful}
 use Rattle.step_rules.specs.Looks.{SeatLook}
 use Rattle.step_rules.specs.Nodes.{SeatNodes}
+use Rattle.step_rules.specs.Readers.{SeatReader}
 use Rattle.step_rules.specs.Scans.{SeatScan}
 use Rattle.step_rules.specs.Stock.{IsStock}
 use Rattle.step_rules.specs.Trail.{IsTrail}
-use Rattle.step_rules.specs.Views.{number}
+use Rattle.step_rules.specs.Versions.{SeatVersions}
+use Rattle.step_rules.specs.Views.{claim_of, number}
 use Rattle.step_rules.specs.World.{World, Own, Retired, Once, has}
+use Rattle.step_rules.specs.Writers.{LeavesLocks, SeatWriter, sites}
 use Rattle.step_rules.specs.declared.layout.TheConstants.{CLAIMS}
 use Rattle.step_rules.specs.declared.plan.Plan.{Plan}
 use Rattle.step_rules.specs.declared.view.View.{View}
@@ -41,6 +44,9 @@ pub record SeatOk (p : Plan) (W : World) (s : ℕ) (v : View) : Type 0 where
   pub look : SeatLook p W.backup W.log v.seen v.look
   pub claims : SeatClaims p W s v.numbers (number v) v.seen v.claims
   pub scan : SeatScan p W.guard v.scan v.retired
+  pub versions : SeatVersions W.version v.trail
+  pub writer : SeatWriter p (sites W) s v.seen (claim_of OWN v) v.writer
+  pub reader : SeatReader p W.version W.inline v.seen v.reader
 
 -- what a step of another seat leaves to the seat s, which holds these numbers: the history grows by `more`
 pub record Leaves (p : Plan) (s : ℕ) (numbers : List ℕ) (W W' : World) (more : List Entry) : Type 0 where
@@ -58,8 +64,9 @@ pub record Leaves (p : Plan) (s : ℕ) (numbers : List ℕ) (W W' : World) (more
   -- a node that the seat has claimed keeps its words, and becomes no seat's own
   pub image : (x c n : ℕ) → has numbers x ≡ true → c < CLAIMS → W.guard (claim_at x c) ≡ n + 1 → W'.node n ≡ W.node n
   pub taken : (x c n t : ℕ) → has numbers x ≡ true → c < CLAIMS → W.guard (claim_at x c) ≡ n + 1 → W'.class n ≡ Own t → W.class n ≡ Own t
-  -- a cell's node and its chain change only with an entry on the cell, and then to no node that the seat has claimed on Back or Hold
+  -- a cell's node and its chain change only with an entry on the cell, and then to no node that the seat has claimed
   pub same : (k : ℕ) → NoneOn p k more → W'.backup k / 2 ≡ W.backup k / 2
   pub falls : (k : ℕ) → NoneOn p k more → W'.backup k ≤ W.backup k
   pub chain : (k : ℕ) → NoneOn p k more → W'.chain k ≡ W.chain k
-  pub fresh : (x c n k : ℕ) → has numbers x ≡ true → Tells c → W.guard (claim_at x c) ≡ n + 1 → W'.backup k / 2 ≡ n → NoneOn p k more
+  pub fresh : (x c n k : ℕ) → has numbers x ≡ true → c < CLAIMS → W.guard (claim_at x c) ≡ n + 1 → W'.backup k / 2 ≡ n → NoneOn p k more
+  pub locks : LeavesLocks s (sites W) (sites W')

@@ -2,16 +2,19 @@
 use Rattle.std.specs.Prelude.{◌≡◌, ℕ, ◌+◌, ◌*◌, ◌<◌, ◌≤◌, true, Some, length}
 use mathlib.Core.Option.{some}
 use lib.ListN.{get_elem?}
-use Rattle.step_rules.specs.Claims.{ClaimsSound}
+use Rattle.step_rules.specs.Claims.{ClaimsSound, OWN}
 use Rattle.step_rules.specs.History.{GoesOn, IsHistory}
 use Rattle.step_rules.specs.Lawful.{Lawful}
 use Rattle.step_rules.specs.Layout.{IsPlan, nodes}
 use Rattle.step_rules.specs.Looks.{IsLook}
 use Rattle.step_rules.specs.Nodes.{IsNode}
+use Rattle.step_rules.specs.Readers.{ReaderSound}
 use Rattle.step_rules.specs.Scans.{ScanSound}
 use Rattle.step_rules.specs.Stock.{IsStock}
 use Rattle.step_rules.specs.Trail.{IsTrail}
+use Rattle.step_rules.specs.Views.{claim_of}
 use Rattle.step_rules.specs.World.{Once, has, nodes_of}
+use Rattle.step_rules.specs.Writers.{WriterSound}
 use Rattle.step_rules.specs.declared.view.Held.{Held}
 use Rattle.step_rules.specs.declared.view.Look.{Look}
 use Rattle.step_rules.specs.declared.view.View.{View}
@@ -36,5 +39,7 @@ pub record Sound (v : View) : Type 0 where
   pub look : (l : Look) → v.look ≡ Some l → IsLook v.plan v.seen l
   pub claims : ClaimsSound v.plan v.seen v.claims
   pub scan : ScanSound v.plan v.scan v.retired
+  pub writer : WriterSound v.plan v.seen (claim_of OWN v) v.writer
+  pub reader : ReaderSound v.plan v.seen v.reader
   -- the removes left are no more than the plan allows to the numbers; what was seen and the changes left, no more than all that it allows
   pub within : length v.seen + v.changes ≤ v.plan.seats * v.plan.changes

@@ -1,5 +1,5 @@
 -- What a step leaves of its seat.
-use Rattle.std.specs.Prelude.{◌≡◌, ℕ, ◌+◌, ◌*◌, ◌-◌, ◌<◌, ◌≤◌, true, false, List, [], ◌∷◌, ◌++◌, Some, ◌⊎◌, ⊤, suc, zero, filter, map, slice_index, slice_index_or}
+use Rattle.std.specs.Prelude.{◌≡◌, ◌≢◌, ℕ, ◌+◌, ◌*◌, ◌-◌, ◌<◌, ◌≤◌, true, false, List, [], ◌∷◌, ◌++◌, Some, ◌⊎◌, ⊤, suc, zero, filter, map, slice_index, slice_index_or}
 use Rattle.std.specs.Prelude.{Bool, length, take, drop, ◌==◌, if◌then◌else◌}
 use Rattle.seat_history.specs.declared.call.Call.{Call}
 use Rattle.seat_history.specs.declared.call.Call.TheVariants.{Look, Release}
@@ -22,6 +22,7 @@ use Rattle.step_rules.specs.declared.view.Claim.{Claim}
 use Rattle.step_rules.specs.declared.view.Counted.{Counted}
 use Rattle.step_rules.specs.declared.view.Kind.{Kind}
 use Rattle.step_rules.specs.declared.view.Kind.TheVariants.{ScanLoad}
+use Rattle.step_rules.specs.declared.view.Stage.TheVariants.{Locked}
 use Rattle.step_rules.specs.declared.view.View.{View}
 
 -- the seat made a step and has this view; its lists stay
@@ -57,6 +58,7 @@ pub record MayClaim (c n : ℕ) (seat : SeatData) : Type 0 where
   pub claim : c < CLAIMS
   pub own : c ≡ OWN → has seat.holding n ≡ true
   pub hold : c ≡ HOLD → holds_record seat.view ≡ false
+  pub unlocked : c ≡ OWN → seat.view.writer.stage ≢ Locked
 
 -- a recheck of the claim c, which names the node of the word x, found the word y in the cell k
 pub record IsRechecked (c k x y : ℕ) (old new : SeatData) : Type 0 where

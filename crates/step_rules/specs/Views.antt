@@ -1,5 +1,5 @@
 -- What each step makes of its seat's view.
-use Rattle.std.specs.Prelude.{ℕ, ◌+◌, ◌*◌, ◌-◌, ◌/◌, ◌==◌, Bool, true, false, not, ◌&&◌, suc, zero, List, [], ◌∷◌, ◌++◌, Some, None, length, map, filter, take}
+use Rattle.std.specs.Prelude.{ℕ, ◌+◌, ◌*◌, ◌-◌, ◌/◌, ◌%◌, ◌==◌, Bool, true, false, not, ◌&&◌, suc, zero, List, [], ◌∷◌, ◌++◌, Some, None, length, map, filter, take}
 use Rattle.std.specs.Prelude.{drop, slice_index, slice_index_or, slice_set, replicate, nat_lt, if◌then◌else◌}
 use Rattle.seat_history.specs.History.{state_at}
 use Rattle.seat_history.specs.Step.{reply_to}
@@ -16,11 +16,14 @@ use Rattle.step_rules.specs.declared.view.Claim.{Claim}
 use Rattle.step_rules.specs.declared.view.Counted.{Counted}
 use Rattle.step_rules.specs.declared.view.Held.{Held}
 use Rattle.step_rules.specs.declared.view.Kind.{Kind}
-use Rattle.step_rules.specs.declared.view.Kind.TheVariants.{NodeStore, NodeLoad, BackupExchange, ClaimStore, Recheck, ClaimClear, ScanLoad}
+use Rattle.step_rules.specs.declared.view.Kind.TheVariants.{NodeStore, NodeLoad, BackupLoad, BackupExchange, ClaimStore, Recheck, ClaimClear, ScanLoad, VersionLoad, InlineLoad, VersionAgain, VersionLock, InlineStore, VersionRelease}
 use Rattle.step_rules.specs.declared.view.Look.{Look}
+use Rattle.step_rules.specs.declared.view.Reader.{Reader}
 use Rattle.step_rules.specs.declared.view.Scan.{Scan}
+use Rattle.step_rules.specs.declared.view.Stage.TheVariants.{Grounded, Waiting, Locked, Released}
 use Rattle.step_rules.specs.declared.view.Stand.{Stand}
 use Rattle.step_rules.specs.declared.view.View.{View}
+use Rattle.step_rules.specs.declared.view.Writer.{Writer}
 
 -- the least number that a seat holds, under which its calls stand
 abbrev pub number : View → ℕ
@@ -50,9 +53,23 @@ loaded_view n j x v = record v { trail = v.trail ++ counted (NodeLoad n j) x (le
 abbrev pub look_at : ℕ → ℕ → ℕ → Look
 look_at k x n = record { cell = k; word = x; at = n }
 
+-- the word x has no mark
+abbrev pub is_even : ℕ → Bool
+is_even x = (x % 2) == 0
+
+-- a backup load of the reader's cell that found no mark after all words were read
+abbrev pub sees_unmarked : Kind → ℕ → ℕ → ℕ → Reader → Reader
+sees_unmarked (BackupLoad cell) k x n r = if (k == r.cell) && (is_even x && (length r.words == NODE_WIDTH)) then record r { unmarked = true; at = n } else r
+sees_unmarked _ k x n r = r
+
 -- BACKUP LOAD, and a BACKUP EXCHANGE that found another word: the word x was found in the cell k, and the history was this
 abbrev pub looked_view : Kind → ℕ → ℕ → List Entry → View → View
-looked_view kind k x log v = record v { seen = log; look = Some (look_at k x (length log)); trail = v.trail ++ counted kind x (length log) ∷ [] }
+looked_view kind k x log v = record v {
+  seen = log;
+  look = Some (look_at k x (length log));
+  trail = v.trail ++ counted kind x (length log) ∷ [];
+  reader = sees_unmarked kind k x (length log) v.reader;
+}
 
 -- the words of the own node n
 abbrev pub words_in : List Held → ℕ → List ℕ
@@ -118,6 +135,7 @@ won_view k x n call log v = let es = log ++ entry (number v) call ∷ [] in reco
   removes = v.removes - removes_of call;
   trail = v.trail ++ counted (BackupExchange k x n) x (length es) ∷ [];
   since = length v.trail + 1;
+  writer = record { stage = Waiting; cell = k; node = n; change = length log; before = v.trail; version = 0; stores = 0 };
 }
 
 -- STAND: one more stand, which is no change
@@ -138,9 +156,14 @@ claim_of c v = slice_index_or v.claims c (silent 0)
 abbrev pub announced : ℕ → ℕ → View → Claim
 announced c n v = if c == 2 then standing n (words_in v.own n) 0 [] 0 else silent (n + 1)
 
+-- a store or clear of Own ends the change in flight
+abbrev pub grounded_by : ℕ → Writer → Writer
+grounded_by c w = if c == 2 then record w { stage = Grounded } else w
+
 abbrev pub announced_view : ℕ → ℕ → View → View
 announced_view c n v = record v {
   claims = slice_set v.claims c (announced c n v);
+  writer = grounded_by c v.writer;
   trail = v.trail ++ counted (ClaimStore c n) (n + 1) (length v.seen) ∷ [];
 }
 
@@ -170,6 +193,7 @@ walked_view n k x found log v = record v {
 abbrev pub cleared_view : ℕ → View → View
 cleared_view c v = record v {
   claims = slice_set v.claims c (silent 0);
+  writer = grounded_by c v.writer;
   trail = v.trail ++ counted (ClaimClear c) 0 (length v.seen) ∷ [];
 }
 
@@ -205,6 +229,49 @@ freed_view freed v = record v {
   retired = filter (λ n. not (is_freed v.scan n)) v.retired;
   scan = record { next = 0; old = []; found = [] };
 }
+
+-- VERSION LOAD: the word x was found in the cell k, and a read begins
+abbrev pub version_view : ℕ → ℕ → View → View
+version_view k x v = record v {
+  trail = v.trail ++ counted (VersionLoad k) x (length v.seen) ∷ [];
+  reader = record { cell = k; version = x; words = []; unmarked = false; at = 0 };
+}
+
+-- INLINE LOAD: one word more is read
+abbrev pub inline_reader : ℕ → Reader → Reader
+inline_reader x r = record r { words = r.words ++ x ∷ [] }
+
+abbrev pub inline_view : ℕ → ℕ → ℕ → View → View
+inline_view k j x v = record v { trail = v.trail ++ counted (InlineLoad k j) x (length v.seen) ∷ []; reader = inline_reader x v.reader }
+
+-- VERSION AGAIN
+abbrev pub again_view : ℕ → ℕ → View → View
+again_view k x v = record v { trail = v.trail ++ counted (VersionAgain k) x (length v.seen) ∷ [] }
+
+-- VERSION LOCK of the version u, which found it: the cell is locked
+abbrev pub locked_writer : ℕ → Writer → Writer
+locked_writer u w = record w { stage = Locked; version = u; stores = 0 }
+
+abbrev pub locked_view : ℕ → ℕ → View → View
+locked_view k u v = record v { trail = v.trail ++ counted (VersionLock k u) u (length v.seen) ∷ []; writer = locked_writer u v.writer }
+
+-- and one that found another version
+abbrev pub missed_view : ℕ → ℕ → ℕ → View → View
+missed_view k u x v = record v { trail = v.trail ++ counted (VersionLock k u) x (length v.seen) ∷ [] }
+
+-- INLINE STORE: one word more is the node's
+abbrev pub copied_writer : Writer → Writer
+copied_writer w = record w { stores = w.stores + 1 }
+
+abbrev pub copied_view : ℕ → ℕ → ℕ → View → View
+copied_view k j x v = record v { trail = v.trail ++ counted (InlineStore k j x) x (length v.seen) ∷ []; writer = copied_writer v.writer }
+
+-- VERSION RELEASE of the lock on the version u
+abbrev pub released_writer : Writer → Writer
+released_writer w = record w { stage = Released }
+
+abbrev pub released_view : ℕ → ℕ → View → View
+released_view k u v = record v { trail = v.trail ++ counted (VersionRelease k u) (u + 2) (length v.seen) ∷ []; writer = released_writer v.writer }
 
 -- SPLIT: the first seat keeps all numbers but the last, and the new seat has that one, each with its share
 abbrev pub left_view : View → View
@@ -260,8 +327,8 @@ blank_view p numbers own = record {
   removes = p.removes * length numbers;
   claims = replicate CLAIMS (silent 0);
   scan = record { next = 0; old = []; found = [] };
-  reader = record { cell = 0; version = 0; words = []; at = 0 };
-  writer = record { cell = 0; version = 0; node = 0; locked = false; stores = 0; change = 0 };
+  reader = record { cell = 0; version = 1; words = []; unmarked = false; at = 0 };
+  writer = record { stage = Grounded; cell = 0; node = 0; change = 0; before = []; version = 0; stores = 0 };
 }
 
 -- what is left of a view that was joined to another

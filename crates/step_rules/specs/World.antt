@@ -22,6 +22,10 @@ pub record Unwritten : Type 0 where
   pub guard : ℕ → ℕ
   -- the history
   pub log : List Entry
+  -- for each cell, the place of the seat that has locked its version and 1, else 0
+  pub locker : ℕ → ℕ
+  -- for each cell and version, how long the history was after the change whose words the release of that version copied
+  pub source : ℕ → ℕ → ℕ
 
 -- what the words and the unwritten say together
 pub record World : Type 0 where
@@ -36,6 +40,11 @@ pub record World : Type 0 where
   -- the claim words, by their places
   pub word : ℕ → ℕ
   pub guard : ℕ → ℕ
+  -- the version and the inline words of each cell
+  pub version : ℕ → ℕ
+  pub inline : ℕ → List ℕ
+  pub locker : ℕ → ℕ
+  pub source : ℕ → ℕ → ℕ
 
 -- n stands in the list
 abbrev pub has : List ℕ → ℕ → Bool

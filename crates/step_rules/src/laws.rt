@@ -2,6 +2,7 @@
 ghost use Rattle.std.specs.Prelude.{◌≡◌, ◌≤◌, ℕ, List};
 ghost use Rattle.seat_history.specs.declared.call.Call.{Call};
 ghost use Rattle.seat_history.specs.declared.entry.Entry.{Entry};
+ghost use Rattle.step_rules.specs.Flights.{FlightsAgree, LaterFound, ReadsAgree, VersionsAgree};
 ghost use Rattle.step_rules.specs.History.{IsHistory};
 ghost use Rattle.step_rules.specs.Order.{AreRecordsOf, NeedsByOrder};
 ghost use Rattle.step_rules.specs.Records.{records_at};
@@ -20,4 +21,29 @@ pub fn records_are_one()
 /// What a change needs after a history is told by its key's place among the records of its cell.
 pub fn need_is_by_order()
     ensures { (p : Plan) (log : List Entry) (call : Call) → NeedsByOrder p log call }
+{}
+
+/// Between any two steps, a cell with an even version and no mark has the words of its node inline. One
+/// with an odd version is marked, and just one seat has locked it.
+pub fn versions_agree()
+    ensures { VersionsAgree }
+{}
+
+/// No version that a seat found is above the cell's. A change in flight finds the cell marked as long as
+/// a version is there that was found before its exchange; what it locked has as many of its words as it
+/// stored; and what it released is its own, while the cell has its node.
+pub fn flights_agree()
+    ensures { FlightsAgree }
+{}
+
+/// Of two changes in flight in one cell, one before which the version was found that the other released
+/// is the later.
+pub fn later_found()
+    ensures { LaterFound }
+{}
+
+/// What a seat has read of inline words is what stands there while the version does, and after an
+/// unmarked backup it is the first node of the cell then.
+pub fn reads_agree()
+    ensures { ReadsAgree }
 {}

@@ -26,7 +26,10 @@ mod view;
 pub use bucket::bucket_index;
 pub use closed::Closed;
 pub use counts::Counts;
-pub use laws::{need_is_by_order, records_are_in_order, records_are_one};
+pub use laws::{
+    flights_agree, later_found, need_is_by_order, reads_agree, records_are_in_order,
+    records_are_one, versions_agree,
+};
 pub use layout::{CELL_WIDTH, CLAIMS, END, Layout, MOST_NODES, NODE_WIDTH, TooLarge};
 pub use opening::{Building, build};
 pub use place::Place;
@@ -35,7 +38,8 @@ pub use rule::Law;
 pub use seat::Seat;
 pub use shared::Shared;
 pub use steps::{
-    backup_exchange, backup_load, claim_clear, claim_store, node_load, node_store, recheck_load,
-    scan_load,
+    backup_exchange, backup_load, claim_clear, claim_store, inline_load, inline_store, mark_clear,
+    node_glance, node_load, node_store, recheck_load, scan_load, version_again, version_load,
+    version_lock, version_release,
 };
-pub use view::{Claim, Counted, Held, Kind, Look, Reader, Scan, Stand, View, Writer};
+pub use view::{Claim, Counted, Held, Kind, Look, Reader, Scan, Stage, Stand, View, Writer};

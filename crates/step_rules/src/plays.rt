@@ -1,5 +1,5 @@
 //! What each kind of atomic step tells its caller.
-ghost use Rattle.step_rules.specs.Plays.{announced, cleared, exchanged, loaded, looked, rechecked_any, scanned, settled, stood, stored};
+ghost use Rattle.step_rules.specs.Plays.{announced, cleared, copied, exchanged, glanced, inline_loaded, loaded, loaded_again, locked, looked, rechecked_any, released, scanned, settled, stood, stored, unmarked, version_loaded};
 ghost use Rattle.step_rules.specs.Views.{joined_view, left_view, right_view, spent_view};
 
 use crate::place::{Place, Rechecking, Telling};
@@ -18,6 +18,12 @@ pub(crate) struct Loads;
 
 impl Play<Call, View> for Loads {
     ghost then = { loaded };
+}
+
+pub(crate) struct Glances;
+
+impl Play<Call, View> for Glances {
+    ghost then = { glanced };
 }
 
 pub(crate) struct Looks;
@@ -66,6 +72,48 @@ pub(crate) struct Stands<P, T> {
 
 impl<P: Place, T: Telling> Play<Call, View> for Stands<P, T> {
     ghost then = { stood P.place T.call T.reply };
+}
+
+pub(crate) struct VersionLoads;
+
+impl Play<Call, View> for VersionLoads {
+    ghost then = { version_loaded };
+}
+
+pub(crate) struct InlineLoads;
+
+impl Play<Call, View> for InlineLoads {
+    ghost then = { inline_loaded };
+}
+
+pub(crate) struct LoadsAgain;
+
+impl Play<Call, View> for LoadsAgain {
+    ghost then = { loaded_again };
+}
+
+pub(crate) struct Locks;
+
+impl Play<Call, View> for Locks {
+    ghost then = { locked };
+}
+
+pub(crate) struct Copies;
+
+impl Play<Call, View> for Copies {
+    ghost then = { copied };
+}
+
+pub(crate) struct Releases;
+
+impl Play<Call, View> for Releases {
+    ghost then = { released };
+}
+
+pub(crate) struct Unmarks;
+
+impl Play<Call, View> for Unmarks {
+    ghost then = { unmarked };
 }
 
 pub(crate) struct Settles;

@@ -1,5 +1,5 @@
 ghost use Rattle.std.specs.Prelude.{◌≡◌, ◌<◌};
-ghost use Rattle.step_rules.specs.Layout.{cells, backup_at, claim_at, node_at, nodes, words};
+ghost use Rattle.step_rules.specs.Layout.{cells, backup_at, claim_at, node_at, nodes, words, inline_at, version_at};
 ghost use Rattle.step_rules.specs.declared.layout.TheConstants.{CLAIMS, NODE_WIDTH};
 
 use crate::layout::{CELL_WIDTH, CLAIMS, NODE_WIDTH};
@@ -64,5 +64,21 @@ impl Shared {
         ensures { (result ≡ backup_at self.now.plan cell) × (result < words self.now.plan) }
     {
         self.cells_start + CELL_WIDTH * cell as usize + 1
+    }
+
+    // The place of a cell's version.
+    pub(crate) fn version_place(&self, cell: u32) -> usize
+        requires { cell < cells self.now.plan }
+        ensures { (result ≡ version_at self.now.plan cell) × (result < words self.now.plan) }
+    {
+        self.cells_start + CELL_WIDTH * cell as usize
+    }
+
+    // The place of an inline word of a cell.
+    pub(crate) fn inline_place(&self, cell: u32, j: u32) -> usize
+        requires { (cell < cells self.now.plan) × (j < NODE_WIDTH) }
+        ensures { (result ≡ inline_at self.now.plan cell j) × (result < words self.now.plan) }
+    {
+        self.cells_start + CELL_WIDTH * cell as usize + 2 + j as usize
     }
 }

@@ -43,6 +43,13 @@ pub enum Kind {
     Recheck { claim: u32, cell: u32, seen: u64 },
     ClaimClear { claim: u32 },
     ScanLoad { word: u32 },
+    VersionLoad { cell: u32 },
+    InlineLoad { cell: u32, j: u32 },
+    VersionAgain { cell: u32 },
+    VersionLock { cell: u32, version: u64 },
+    InlineStore { cell: u32, j: u32, word: u64 },
+    VersionRelease { cell: u32, version: u64 },
+    MarkClear { cell: u32, node: u32 },
 }
 
 /// An atomic step that is counted.
@@ -80,26 +87,39 @@ pub struct Scan {
     pub found: LinkedList<u32>,
 }
 
-/// A fast read in flight.
+/// The last version load of a seat, and what it read since. An odd version is no read.
 pub struct Reader {
     pub cell: u32,
     pub version: u64,
     /// The inline words that were read.
     pub words: LinkedList<u64>,
-    /// How long the history was when the backup was found unmarked.
+    /// Whether all words were read and then the backup was found unmarked.
+    pub unmarked: bool,
+    /// How long the history was then.
     pub at: u64,
+}
+
+/// How far a change is after its exchange. At the next store or clear of Own it is in flight no more.
+pub enum Stage {
+    Grounded,
+    Waiting,
+    Locked,
+    Released,
 }
 
 /// A change in flight, from its exchange on.
 pub struct Writer {
+    pub stage: Stage,
     pub cell: u32,
-    pub version: u64,
     pub node: u32,
-    pub locked: bool,
-    /// How many inline words were stored.
-    pub stores: u64,
     /// Which entry of the history it is.
     pub change: u64,
+    /// The counted steps before the exchange.
+    pub before: LinkedList<Counted>,
+    /// The version that it locked.
+    pub version: u64,
+    /// How many inline words were stored since.
+    pub stores: u64,
 }
 
 /// All that a seat knows.

@@ -2,9 +2,9 @@
 use Rattle.std.proofs.Common.{append_assoc, ◌≡◌, ◌≢◌, ℕ, ◌+◌, ◌*◌, ◌/◌, ◌<◌, ◌≤◌, ◌==◌, suc, true, List, [], ◌∷◌, ◌++◌, length, drop, take, set}
 use Rattle.std.proofs.Common.{get_or, cond, refl, sym, ap, ◌∙◌, subst}
 use Rattle.std.proofs.Common.{arith, inl, ⊎_elim, append-nil, le_refl, length-append}
-use Rattle.std.proofs.lemmas.Bool.{cond-false, cond-true}
-use Rattle.std.proofs.lemmas.List.{length-set, take-append-drop, length-take-le}
-use Rattle.std.proofs.Math.Seq.{take-append_seam}
+use Rattle.std.proofs.lemmas.Bool.{cases_eq, cond-false, cond-true}
+use Rattle.std.proofs.lemmas.List.{drop-append-le, length-set, take-append-drop, length-take-le}
+use Rattle.std.proofs.Math.Seq.{drop-length, take-append_seam}
 use mathlib.Core.Option.{none, some, some-injective}
 use lib.ListN.{get_elem?}
 use prog.Atomic.{either}
@@ -17,7 +17,7 @@ use Rattle.seat_history.specs.History.{state_at}
 use Rattle.seat_history.specs.declared.call.Call.{Call}
 use Rattle.seat_history.specs.declared.entry.Entry.{Entry}
 use Rattle.step_rules.specs.Cells.{CellsAgree, IsCell}
-use Rattle.step_rules.specs.Claims.{BACK}
+use Rattle.step_rules.specs.Claims.{BACK, OWN, On}
 use Rattle.step_rules.specs.History.{IsEntry, IsHistory, NoneOn, cell_of}
 use Rattle.step_rules.specs.Kinds.Backup.{Looks, MayExchange, Wins}
 use Rattle.step_rules.specs.Kinds.Exchange.{Exchanges}
@@ -25,23 +25,28 @@ use Rattle.step_rules.specs.Layout.{backup_at, cells, nodes, nodes_at}
 use Rattle.step_rules.specs.Nodes.{IsNode, SeatNodes}
 use Rattle.step_rules.specs.Plays.{Mine, exchanged}
 use Rattle.step_rules.specs.Records.{Edit, IsCounted, Within, cost_of, dropped_count, edit_of, edited, fresh_records, gain_of, is_change_in, need, records_after, records_at, records_of}
+use Rattle.step_rules.specs.Readers.{SeatReader}
 use Rattle.step_rules.specs.Rule.{Holds, backup_word, world_of}
 use Rattle.step_rules.specs.Seats.{SeatOk}
 use Rattle.step_rules.specs.Stock.{IsStock}
 use Rattle.step_rules.specs.Trail.{IsTrail}
-use Rattle.step_rules.specs.Views.{changing, claimed_edit, claimed_pages, claimed_records, counted as counted_step, dropped_of, entry, fresh_of, kept_of, number, silent, won_view}
+use Rattle.step_rules.specs.Versions.{IsEven, VersionedAt}
+use Rattle.step_rules.specs.Views.{changing, claim_of, claimed_edit, claimed_pages, claimed_records, counted as counted_step, dropped_of, entry, fresh_of, kept_of, number, silent, won_view}
 use Rattle.step_rules.specs.World.{Chained, Class, World, Own, Live, Retired, Once, has, link, nodes_of, Unwritten}
+use Rattle.step_rules.specs.Writers.{Flies, SeatWriter, sites}
 use Rattle.step_rules.specs.declared.layout.TheConstants.{CLAIMS}
 use Rattle.step_rules.specs.declared.plan.Plan.{Plan}
 use Rattle.step_rules.specs.declared.view.Claim.{Claim}
 use Rattle.step_rules.specs.declared.view.Held.{Held}
 use Rattle.step_rules.specs.declared.view.Kind.TheVariants.{BackupExchange}
 use Rattle.step_rules.specs.declared.view.View.{View}
-use Rattle.step_rules.proofs.Rely.Advance.{goes_further}
+use Rattle.step_rules.proofs.Rely.Advance.{goes_further, none_on-append, none_on_parts}
+use Rattle.step_rules.proofs.Rely.Readers.{reader_more}
+use Rattle.step_rules.proofs.Rely.Writers.{locked_flies, versions_step}
 use Rattle.step_rules.proofs.World.Chains.{chained_class, chained_parts, head_has, linked_chained}
 use Rattle.step_rules.proofs.Order.Edits.{chain_edit, edit_stock}
 use Rattle.step_rules.proofs.World.Exchanging.{exchange_cells, exchange_claims, exchange_leaves, exchange_nodes}
-use Rattle.step_rules.proofs.World.Frames.{backup_else, backup_here, backup_is, claim_else, is_set, node_low, one_cell, set_at_else}
+use Rattle.step_rules.proofs.World.Frames.{backup_else, backup_here, backup_is, backup_store, claim_else, is_set, node_low, one_cell, set_at_else}
 use Rattle.step_rules.proofs.Order.Fronts.{chained_once, dropped_within, followed_link, followed_words, length-followed, length-without_all, need_some, once-without_all, without_all_at}
 use Rattle.step_rules.proofs.Line.Lawfuls.{lawful_change}
 use Rattle.step_rules.proofs.Ties.Owns.{words_at}
@@ -65,13 +70,21 @@ history_more p log e h is = record {
       (at_more log e f i at);
 }
 
-backup_low : (p : Plan) (k : ℕ) → k < cells p → backup_at p k < nodes_at p
+-- the last one of a list, and what comes after it
+at_end : {A : Type 0} (l : List A) (a : A) → get_elem? (l ++ a ∷ []) (length l) ≡ some a
+at_end [] a = refl
+at_end (x ∷ l) a = at_end l a
+
+drop-end : {A : Type 0} (l : List A) (a : A) → drop (length l + 1) (l ++ a ∷ []) ≡ []
+drop-end l a = subst (λ n. drop n (l ++ a ∷ []) ≡ []) (length-append l (a ∷ [])) (drop-length (l ++ a ∷ []))
+
+pub backup_low : (p : Plan) (k : ℕ) → k < cells p → backup_at p k < nodes_at p
 backup_low p k lt = omega arith
 
-claim_apart : (p : Plan) (k w : ℕ) → w < CLAIMS * p.seats → w ≢ backup_at p k
+pub claim_apart : (p : Plan) (k w : ℕ) → w < CLAIMS * p.seats → w ≢ backup_at p k
 claim_apart p k w lt e = omega arith
 
-backup_one : (p : Plan) (j k : ℕ) → j ≢ k → backup_at p j ≢ backup_at p k
+pub backup_one : (p : Plan) (j k : ℕ) → j ≢ k → backup_at p j ≢ backup_at p k
 backup_one p j k ne e = ne (omega arith)
 
 cell_inside : (m : Moment) {k x n : ℕ} {call : Call} → MayExchange k x n call m.view → k < cells m.view.plan
@@ -229,6 +242,10 @@ module _ (m : Moment) {k x n : ℕ} {call : Call} (may : MayExchange k x n call 
     log = es;
     word = λ w. claim_else p m.ws (backup_at p k) (2 * n + 1) w (λ lt. claim_apart p k w lt) j;
     guard = W.guard;
+    version = λ i. (backup_store p m.ws k (2 * n + 1)).version i j;
+    inline = λ i. (backup_store p m.ws k (2 * n + 1)).inline i j;
+    locker = W.locker;
+    source = W.source;
   }
 
   backup_new : W'.backup k ≡ 2 * n + 1
@@ -262,6 +279,10 @@ module _ (m : Moment) {k x n : ℕ} {call : Call} (may : MayExchange k x n call 
     node = λ i. refl;
     word = λ w. refl;
     guard = λ w. refl;
+    version = λ j. refl;
+    inline = λ j. refl;
+    locker = λ j. refl;
+    source = λ j u. refl;
   }
 
   cells_agree : CellsAgree p W'
@@ -312,6 +333,73 @@ module _ (m : Moment) {k x n : ℕ} {call : Call} (may : MayExchange k x n call 
   head_there = let f = at_has v.own n (may.own n (head_has fresh n some_fresh fresh_head)) in
       let low : n < nodes p = subst (λ i. i < nodes p) f.3 (o.nodes.there f.0 f.1 f.2).there in omega arith
 
+  -- the node that the exchange installs is the seat's own before, so that no change was in flight
+  mine_is : claim_of OWN v ≡ may.mine
+  mine_is = there_at v.claims OWN may.mine (silent 0) may.announced
+
+  grounded : Flies v.writer → ⊥
+  grounded flies =
+      let on : On may.mine v.writer.node = subst (λ (y : Claim). On y v.writer.node) mine_is (o.writer.sound.own flies) in
+      let a = on.at in let b = may.guarded.at in
+      let same : n ≡ v.writer.node = omega arith in
+      o.writer.free flies id (ap W.class (sym same) ∙ class_fresh n (head_has fresh n some_fresh fresh_head))
+
+  new_writer : SeatWriter p (sites W') id es (claim_of OWN v) winning.writer
+  new_writer = record {
+    sound = record {
+      cell = λ _. inside;
+      own = λ _. subst (λ (y : Claim). On y n) (sym mine_is) may.guarded;
+      change = λ _. (e, at_end log e, may.on);
+      even = λ has. absurd (⊎_elim (λ q. cc) (λ q. cc) has);
+      latest = λ has. absurd (⊎_elim (λ q. cc) (λ q. cc) has);
+      stores = λ q. absurd cc;
+    };
+    before = λ _ u found. o.versions.found k u found;
+    last = λ _ _. subst (NoneOn p k) (sym (drop-end log e)) tt;
+    free = λ _ t own. let z : Live k ≡ Own t = sym (exchange.into n (head_has fresh n some_fresh fresh_head)) ∙ own in cc;
+    locked = λ q. absurd cc;
+    released = λ q. absurd cc;
+    locks = λ j q. absurd (grounded (locked_flies v.writer (o.writer.locks j q).0));
+    stays = λ _ _. let named = backup_new in omega arith;
+    later = λ _ u found. (m.rule.versions k inside).dated u;
+    sourced = λ q. absurd cc;
+  }
+
+  -- the cell is marked, and all others are as they were
+  versioned : (j : ℕ) → j < cells p → VersionedAt p W' j
+  versioned j lt = ⊎_elim
+      (λ same. record {
+        locked = before.locked;
+        dated = dated;
+        passed = passed;
+        copied = λ _ still. absurd ((shorter still (before.dated (W.version j))).1.0 (may.on ∙ sym same));
+        settled = λ even. absurd (let odd = ap W'.backup same ∙ backup_new in omega arith);
+      })
+      (λ ne. let stays = set_at_else W.backup k j (2 * n + 1) ne in record {
+        locked = before.locked;
+        dated = dated;
+        passed = passed;
+        copied = λ even still. before.copied even (shorter still (before.dated (W.version j))).0 ∙ ap (λ b. W.node (b / 2)) (sym stays);
+        settled = λ even. let was = before.settled (omega arith) in (
+          was.0,
+          subst (NoneOn p j) (sym (drop-append-le (W.source j (W.version j)) log (e ∷ []) (before.dated (W.version j))))
+              (none_on-append p j (drop (W.source j (W.version j)) log) (e ∷ []) was.1 (exchange.there j ne)),
+        );
+      })
+      (cases_eq j k)
+    where
+      before : VersionedAt p W j
+      before = m.rule.versions j lt
+
+      shorter : {a : ℕ} → NoneOn p j (drop a es) → a ≤ length log → NoneOn p j (drop a log) × NoneOn p j (e ∷ [])
+      shorter {a} still le = none_on_parts p j (drop a log) (e ∷ []) (subst (NoneOn p j) (drop-append-le a log (e ∷ []) le) still)
+
+      dated : (u : ℕ) → W.source j u ≤ length es
+      dated u = let d = before.dated u in omega (arith, length-append log (e ∷ []))
+
+      passed : (u : ℕ) → IsEven u → u < W.version j → ¬ NoneOn p j (drop (W.source j u) es)
+      passed u even low still = before.passed u even low (shorter still (before.dated u)).0
+
   new_seat : SeatOk p W' id winning
   new_seat = record {
     plan = o.plan;
@@ -328,6 +416,9 @@ module _ (m : Moment) {k x n : ℕ} {call : Call} (may : MayExchange k x n call 
       sound = record { old = λ i is. has_left v.retired (nodes_of dropped) i (o.scan.sound.old i is); counted = o.scan.sound.counted; within = o.scan.sound.within };
       found = o.scan.found;
     };
+    versions = versions_step (counted_step (BackupExchange k x n) x (length es)) (λ j e. cc) o.versions;
+    writer = new_writer;
+    reader = subst (λ (l : List Entry). SeatReader p W.version W.inline l v.reader) (sym whole) (reader_more (o.seen.rest ++ e ∷ []) o.reader);
   }
 
   pub wins : Made m ws' winning
@@ -339,6 +430,8 @@ module _ (m : Moment) {k x n : ℕ} {call : Call} (may : MayExchange k x n call 
     cells = cells_agree;
     guards = m.rule.guards;
     history = history;
+    versions = versioned;
+    lockers = m.rule.lockers;
     budget = omega (arith, length-append log (e ∷ []));
   })
 
@@ -372,7 +465,7 @@ exchanges slots id me k x n call numbered may s r _ at _ =
       λ miss. absurd (miss hit),
     )))
     -- the word found is another, and the exchange is a look
-    (λ miss. load_owed id me numbered s r at _ place lost (sees m (BackupExchange k x n) k inside) refl numbered (λ j i word second. (
+    (λ miss. load_owed id me numbered s r at _ place lost (sees m (BackupExchange k x n) k inside (λ j e. cc)) refl numbered (λ j i word second. (
       λ hit. absurd (miss hit),
       λ _. subst (λ (q : ℕ × ℕ × ℕ). Looks (BackupExchange q.0 x q.1) q.0 q.2 v lost) (λ t. (one_cell v.plan k j word t, same_node n i second t, sym named t))
           (sees_told m (BackupExchange k x n) k inside),

@@ -3,28 +3,32 @@ use Rattle.std.proofs.Common.{◌+◌, Bool, cond, ◌≡◌, ◌≢◌, ℕ, �
 use Rattle.std.proofs.Common.{◌∙◌, subst, arith, ⊎_elim}
 use Rattle.std.proofs.Common.{if◌then◌else◌, ◌==◌, length-append, append_assoc}
 use Rattle.std.proofs.lemmas.Bool.{cases_Bool, cases_lt, cond-true, cond-false, lt-ltb, le-ltb, false≢true}
-use Rattle.std.proofs.lemmas.List.{append-nil}
+use Rattle.std.proofs.lemmas.List.{append-nil, length-set}
 use mathlib.Core.Option.{some}
 use lib.ListN.{get_elem?}
 use Rattle.atomic_table.specs.Table.{Joins}
 use Rattle.atomic_table.proofs.Lists.{at_set, set_else}
 use Rattle.seat_history.specs.declared.entry.Entry.{Entry}
-use Rattle.step_rules.specs.Claims.{ClaimsSound, SeatClaims}
+use Rattle.step_rules.specs.Claims.{ClaimsSound, OWN, SeatClaims}
 use Rattle.step_rules.specs.History.{GoesOn, NoneBy}
 use Rattle.step_rules.specs.Lawful.{Lawful}
 use Rattle.step_rules.specs.Looks.{SeatLook}
 use Rattle.step_rules.specs.Nodes.{SeatNodes}
+use Rattle.step_rules.specs.Readers.{SeatReader}
 use Rattle.step_rules.specs.Rule.{Holds, HoldsAt}
 use Rattle.step_rules.specs.Scans.{SeatScan}
 use Rattle.step_rules.specs.Seats.{SeatOk}
 use Rattle.step_rules.specs.Stock.{IsStock}
-use Rattle.step_rules.specs.Views.{joined_view, longer, number, shorter, spent_view}
+use Rattle.step_rules.specs.Views.{claim_of, joined_view, longer, number, shorter, spent_view}
 use Rattle.step_rules.specs.World.{Class, Live, Once, Own, Retired, World, has, nodes_of, Unwritten}
+use Rattle.step_rules.specs.Writers.{SeatWriter, sites}
 use Rattle.step_rules.specs.declared.plan.Plan.{Plan}
 use Rattle.step_rules.specs.declared.view.Claim.{Claim}
 use Rattle.step_rules.specs.declared.view.View.{View}
 use Rattle.step_rules.proofs.Rely.Moments.{Moment, moment, total_set, world}
 use Rattle.step_rules.proofs.Rely.Claimed.{claims_sound_more}
+use Rattle.step_rules.proofs.Rely.Readers.{reader_more, reader_none}
+use Rattle.step_rules.proofs.Rely.Writers.{no_versions, quiet_unlocked, writer_more, writer_none}
 use Rattle.step_rules.proofs.Line.Lawfuls.{lawful_join}
 use Rattle.step_rules.proofs.Numbers.Sets.{at_has, has-append, has_left, nodes_of-append, once-append, first_number}
 use Rattle.step_rules.proofs.World.Silent.{Quiet, claims_quiet, no_claims, no_claims_quiet, no_claims_sound, unclaimed}
@@ -274,6 +278,9 @@ module _ (m : Moment) (other : ℕ) (w : View) (at_other : get_elem? m.vs other 
     look = joined_look;
     claims = subst (λ l. SeatClaims p join_after id (v.numbers ++ w.numbers) l (longer v.seen w.seen) v.claims) (sym (first_number v.numbers w.numbers m.numbered)) joined_claims;
     scan = joined_scan;
+    versions = kept_ok.versions;
+    reader = subst (λ (l : List Entry). SeatReader p W.version W.inline l v.reader) (sym seen_both.after_first) (reader_more seen_both.first kept_ok.reader);
+    writer = subst (λ (l : List Entry). SeatWriter p (sites join_after) id l (claim_of OWN v) v.writer) (sym seen_both.after_first) (writer_more seen_both.first kept_ok.writer);
   }
 
   spent_ok : SeatOk p join_after other spent_view
@@ -298,6 +305,9 @@ module _ (m : Moment) (other : ℕ) (w : View) (at_other : get_elem? m.vs other 
     look = record { is = λ l e. absurd cc; holds = λ l e. absurd cc };
     claims = claims_quiet p join_after other [] 0 [] no_claims (λ lt. absurd (omega arith)) (no_claims_sound p []) no_claims_quiet (λ x c e lt. absurd (false≢true e));
     scan = record { sound = record { old = λ n e. absurd (false≢true e); counted = omega arith; within = omega arith }; found = λ i n lt g e. absurd (omega arith) };
+    versions = no_versions W.version;
+    reader = reader_none [];
+    writer = writer_none (λ flies. flies refl) (quiet_unlocked second_ok.claims second_ok.writer quiet);
   }
 
   each_joined : (s : ℕ) (u : View) → get_elem? (set (set m.vs id joined) other spent_view) s ≡ some u → SeatOk p join_after s u
@@ -317,6 +327,8 @@ module _ (m : Moment) (other : ℕ) (w : View) (at_other : get_elem? m.vs other 
     cells = handed_cells p W other class_joined holder_joined hands m.rule.cells;
     guards = m.rule.guards;
     seats = each_joined;
+    versions = m.rule.versions;
+    lockers = λ k s e. let low = m.rule.lockers k s e in omega (arith, length-set (set m.vs id joined) other spent_view, length-set m.vs id joined);
     budget = let b = m.rule.budget in
         omega (
           arith,

@@ -1,5 +1,5 @@
 -- NODE LOAD, STAND, and a load that changes nothing, keep the rule.
-use Rattle.std.proofs.Common.{le_refl, ◌≡◌, ℕ, ◌+◌, ◌<◌, List, ◌++◌, ◌∷◌, [], length, get_or, refl, sym, ap, ◌∙◌, subst, arith}
+use Rattle.std.proofs.Common.{le_refl, ◌≡◌, ◌≢◌, ℕ, ◌+◌, ◌<◌, List, ◌++◌, ◌∷◌, [], length, get_or, refl, sym, ap, ◌∙◌, subst, arith}
 use mathlib.Core.Option.{none}
 use Rattle.atomic_table.specs.Table.{step, Allows}
 use Rattle.seat_history.specs.declared.call.Call.{Call}
@@ -8,12 +8,13 @@ use Rattle.step_rules.proofs.World.Frames.{node_is, one_place}
 use Rattle.step_rules.proofs.Line.Lawfuls.{lawful_stand}
 use Rattle.step_rules.proofs.Rely.Moments.{Moment, load_owed, moment, own_step, seat, world}
 use Rattle.step_rules.proofs.Numbers.Sets.{has_first}
+use Rattle.step_rules.proofs.Rely.Writers.{versions_step}
 use Rattle.step_rules.proofs.Line.Stocks.{stock_push}
 use Rattle.step_rules.proofs.Line.Trails.{goes_on_same, trail_stand, trail_step}
 use Rattle.step_rules.specs.Kinds.Node.{Reads}
 use Rattle.step_rules.specs.Kinds.Standing.{MayStand}
 use Rattle.step_rules.specs.Layout.{node_at}
-use Rattle.step_rules.specs.Plays.{Mine, loaded, settled, stood}
+use Rattle.step_rules.specs.Plays.{Mine, glanced, loaded, settled, stood}
 use Rattle.step_rules.specs.Rule.{Holds, node_words}
 use Rattle.step_rules.specs.Scans.{SeatScan}
 use Rattle.step_rules.specs.Seats.{SeatOk}
@@ -22,14 +23,14 @@ use Rattle.step_rules.specs.World.{World}
 use Rattle.step_rules.specs.declared.layout.TheConstants.{NODE_WIDTH}
 use Rattle.step_rules.specs.declared.plan.Plan.{Plan}
 use Rattle.step_rules.specs.declared.view.Counted.{Counted}
-use Rattle.step_rules.specs.declared.view.Kind.TheVariants.{NodeLoad}
+use Rattle.step_rules.specs.declared.view.Kind.TheVariants.{NodeLoad, VersionLoad}
 use Rattle.step_rules.specs.declared.view.Scan.{Scan}
 use Rattle.step_rules.specs.declared.view.View.{View}
 
 -- a step that is counted, and moves at most the scan
-pub counted_ok : (p : Plan) (W : World) (id : ℕ) (v : View) (made : Counted) (scan : Scan) → SeatOk p W id v → made.seen ≡ length v.seen → SeatScan p W.guard scan v.retired
+pub counted_ok : (p : Plan) (W : World) (id : ℕ) (v : View) (made : Counted) (scan : Scan) → SeatOk p W id v → made.seen ≡ length v.seen → ((k : ℕ) → made.kind ≢ VersionLoad k) → SeatScan p W.guard scan v.retired
     → SeatOk p W id (record v { trail = v.trail ++ made ∷ []; scan = scan })
-counted_ok p W id v made scan ok seen scan_ok = record {
+counted_ok p W id v made scan ok seen other scan_ok = record {
   plan = ok.plan;
   numbers = ok.numbers;
   nodes = ok.nodes;
@@ -41,6 +42,9 @@ counted_ok p W id v made scan ok seen scan_ok = record {
   look = ok.look;
   claims = ok.claims;
   scan = scan_ok;
+  versions = versions_step made other ok.versions;
+  writer = ok.writer;
+  reader = ok.reader;
 }
 
 stood_ok : (W : World) (id q : ℕ) (call : Call) (reply : Reply) (v : View) → 0 < length v.numbers → MayStand q call reply v → SeatOk v.plan W id v
@@ -58,6 +62,9 @@ stood_ok W id q call reply v numbered may ok = record {
   look = ok.look;
   claims = ok.claims;
   scan = ok.scan;
+  versions = ok.versions;
+  writer = ok.writer;
+  reader = ok.reader;
 }
 
 -- the node's words, as the seat knows them
@@ -77,9 +84,19 @@ loads slots id me n j numbered inside s r _ at _ =
     let m = moment id me numbered s r at in
     let x = get_or s.words (node_at p n j) 0 in
     let w = loaded_view n j x me.0 in
-    let made = own_step m w (counted_ok p (world m) id me.0 (counted (NodeLoad n j) x (length me.0.seen)) me.0.scan (seat m) refl (seat m).scan) (le_refl me.0.changes) in
+    let made = own_step m w (counted_ok p (world m) id me.0 (counted (NodeLoad n j) x (length me.0.seen)) me.0.scan (seat m) refl (λ k e. cc) (seat m).scan) (le_refl me.0.changes) in
     load_owed id me numbered s r at _ (node_at p n j) w made refl numbered (λ a b e below. let q = one_place p n j a b e inside below in
     subst (λ (z : ℕ × ℕ). (w ≡ loaded_view z.0 z.1 x me.0) × Reads z.0 z.1 x me.0) (λ c. (q.0 c, q.1 c)) (refl, reads m n j inside))
+
+-- a load that isn't counted
+pub glances : (slots id : ℕ) (me : Mine) (n j : ℕ) → 0 < length me.0.numbers → j < NODE_WIDTH
+    → Allows (Holds me.0.plan) slots id me (node_at me.0.plan n j) (λ x. x) (glanced (step slots (node_at me.0.plan n j) 0 0 none) me)
+glances slots id me n j numbered inside s r _ at _ =
+    let p = me.0.plan in
+    let m = moment id me numbered s r at in
+    let x = get_or s.words (node_at p n j) 0 in
+    load_owed id me numbered s r at _ (node_at p n j) me.0 (own_step m me.0 (seat m) (le_refl me.0.changes)) refl numbered (λ a b e below. let q = one_place p n j a b e inside below in
+    subst (λ (z : ℕ × ℕ). (me.0 ≡ me.0) × Reads z.0 z.1 x me.0) (λ c. (q.0 c, q.1 c)) (refl, reads m n j inside))
 
 pub stands : (slots id : ℕ) (me : Mine) (i q : ℕ) (call : Call) (reply : Reply) → 0 < length me.0.numbers → MayStand q call reply me.0
     → Allows (Holds me.0.plan) slots id me i (λ x. x) (stood q call reply (step slots i 0 0 none) me)

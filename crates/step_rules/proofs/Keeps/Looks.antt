@@ -16,5 +16,5 @@ pub looks : (slots id : ℕ) (me : Mine) (k : ℕ) → 0 < length me.0.numbers �
 looks slots id me k numbered inside s r _ at _ =
     let m = moment id me numbered s r at in
     let is = backup_is me.0.plan s.words k inside in
-    load_owed id me numbered s r at _ (backup_at me.0.plan k) (seeing m (BackupLoad k) k inside) (sees m (BackupLoad k) k inside) refl numbered (λ j e. let q = one_cell me.0.plan k j e in
+    load_owed id me numbered s r at _ (backup_at me.0.plan k) (seeing m (BackupLoad k) k inside) (sees m (BackupLoad k) k inside (λ j e. cc)) refl numbered (λ j e. let q = one_cell me.0.plan k j e in
     subst (λ (z : ℕ × ℕ). Looks (BackupLoad z.0) z.0 z.1 me.0 (seeing m (BackupLoad k) k inside)) (λ i. (q i, sym is i)) (sees_told m (BackupLoad k) k inside))

@@ -8,14 +8,14 @@ use Rattle.std.proofs.lemmas.List.Filters.{length-filter_both}
 use mathlib.Core.Option.{none, some}
 use lib.ListN.{get_elem?}
 use Rattle.atomic_table.specs.Table.{step, Allows}
-use Rattle.step_rules.proofs.Rely.Advance.{claim_found, claims_kept, guarded}
+use Rattle.step_rules.proofs.Rely.Advance.{claim_found, claims_kept, guarded, own_guarded}
 use Rattle.step_rules.proofs.World.Handing.{Hands, handed_cells, handed_leaves}
 use Rattle.step_rules.proofs.Keeps.Loads.{counted_ok}
 use Rattle.step_rules.proofs.Rely.Moments.{Made, Moment, advance, load_owed, moment, own_step, seat, world}
 use Rattle.step_rules.proofs.World.Frames.{claim_is, past}
 use Rattle.step_rules.proofs.Keeps.Stores.{at_mapped}
 use Rattle.step_rules.proofs.Numbers.Sets.{at_has, nodes_of-append, once-append, has_place}
-use Rattle.step_rules.specs.Claims.{Guards, On}
+use Rattle.step_rules.specs.Claims.{Guards, OWN, On}
 use Rattle.step_rules.specs.Kinds.Claiming.{FindsOwn, MayScan}
 use Rattle.step_rules.specs.Layout.{claim_at, nodes, nodes_at, words}
 use Rattle.step_rules.specs.Nodes.{IsNode, SeatNodes}
@@ -208,6 +208,20 @@ module _ (m : Moment) (v : View) (ok : SeatOk m.view.plan (world m) m.id v) (who
     look = ok.look;
     claims = claims_kept ok.claims class_freed W.node (λ c n y at on. (refl, λ t e. class_claimed (claim_at (number v) c) n (Own t) (guarded ok.claims c n y at on) e));
     scan = record { sound = record { old = λ n h. absurd (false≢true h); counted = omega arith; within = omega arith }; found = λ u n lt e h. absurd (omega arith) };
+    versions = ok.versions;
+    reader = ok.reader;
+    writer = record {
+      sound = ok.writer.sound;
+      before = ok.writer.before;
+      last = ok.writer.last;
+      free = λ flies t own. ok.writer.free flies t (class_claimed (claim_at (number v) OWN) v.writer.node (Own t) (own_guarded ok.claims v.writer ok.writer flies) own);
+      locked = ok.writer.locked;
+      released = ok.writer.released;
+      locks = ok.writer.locks;
+      stays = ok.writer.stays;
+      later = ok.writer.later;
+      sourced = ok.writer.sourced;
+    };
   }
 
   -- the rule after the last load
@@ -220,6 +234,8 @@ module _ (m : Moment) (v : View) (ok : SeatOk m.view.plan (world m) m.id v) (who
     cells = handed_cells p W m.id class_freed W.holder hands m.rule.cells;
     guards = m.rule.guards;
     history = m.rule.history;
+    versions = m.rule.versions;
+    lockers = m.rule.lockers;
     budget = omega arith;
   })
 
@@ -231,7 +247,7 @@ scans slots id me w numbered may s r _ at _ =
     let x = get_or s.words w 0 in
     let u = scanned_view w x v in
     let is = claim_is v.plan s.words w may.0 in
-    let ok = counted_ok v.plan (world m) id v (scan_step w x v) (scanned_scan w x v) o refl (scan_more v.plan (world m) w x v m.rule.guards may.0 is o.scan may.1) in
+    let ok = counted_ok v.plan (world m) id v (scan_step w x v) (scanned_scan w x v) o refl (λ k e. cc) (scan_more v.plan (world m) w x v m.rule.guards may.0 is o.scan may.1) in
     let mine = finds_own v.plan (world m) id w x v numbered is o in
     ⊎_elim
     (λ (last : suc w ≡ CLAIMS * v.plan.seats).

@@ -1,7 +1,7 @@
 -- SPLIT keeps the rule.
 use Rattle.std.proofs.Common.{get_or, ◌≡◌, ◌≢◌, ℕ, ◌+◌, ◌-◌, ◌*◌, ◌<◌, suc, true, List, [], ◌∷◌, ◌++◌, length, take, drop, set, refl, sym, ap, ◌∙◌}
 use Rattle.std.proofs.Common.{subst, arith, ⊎_elim, if◌then◌else◌}
-use Rattle.std.proofs.Common.{length-drop, length-take, length-set, mul-suc}
+use Rattle.std.proofs.Common.{length-drop, length-append, length-take, length-set, mul-suc}
 use Rattle.std.proofs.lemmas.Bool.{cond-true, cond-false, false≢true, false_from_ne_true}
 use Rattle.std.proofs.lemmas.List.{take-append-drop}
 use Rattle.std.proofs.lemmas.List.Sums.{sum_by_push}
@@ -22,6 +22,7 @@ use Rattle.step_rules.proofs.Rely.Moments.{Moment, moment, seat, total_set, worl
 use Rattle.step_rules.proofs.Numbers.Sets.{at_has, has_at, has_first, has_left, has_right, nodes_of-append, once_apart, once_parts}
 use Rattle.step_rules.proofs.World.Silent.{Quiet, claims_quiet, no_claims_quiet, unclaimed}
 use Rattle.step_rules.proofs.Line.Stocks.{stock_fresh, stock_unused}
+use Rattle.step_rules.proofs.Rely.Writers.{quiet_grounded, quiet_unlocked, writer_none}
 use Rattle.step_rules.proofs.World.Handing.{Hands, handed_cells, handed_seat}
 use Rattle.step_rules.proofs.Numbers.Places.{at_behind, at_more}
 
@@ -125,8 +126,8 @@ module _ (m : Moment) (free holding : List ℕ) (fresh : IsFresh m.view free hol
   quiet_all = subst Quiet (sym fresh.claims) no_claims_quiet
 
   part_ok : (s : ℕ) (ns : List ℕ) (own : List Held) (changes removes : ℕ) → IsPart s ns own removes
-      → SeatOk v.plan split_after s (record v { numbers = ns; own = own; changes = changes; removes = removes })
-  part_ok s ns own changes removes part = let o = split_ok in record {
+      → ((k : ℕ) → W.locker k ≡ s + 1 → ⊥) → SeatOk v.plan split_after s (record v { numbers = ns; own = own; changes = changes; removes = removes })
+  part_ok s ns own changes removes part unlocked = let o = split_ok in record {
     plan = λ _. refl;
     numbers = record { held = part.held; below = λ x e. o.numbers.below x (part.of_numbers x e); once = part.once };
     nodes = record {
@@ -152,6 +153,9 @@ module _ (m : Moment) (free holding : List ℕ) (fresh : IsFresh m.view free hol
     claims = claims_quiet v.plan split_after s ns (get_or ns 0 0) v.seen v.claims (has_first ns) o.claims.sound quiet_all
         (λ x c e lt. unclaimed v.plan W m.id v o quiet_all x c (part.of_numbers x e) lt);
     scan = o.scan;
+    versions = o.versions;
+    reader = o.reader;
+    writer = writer_none (quiet_grounded o.claims o.writer quiet_all) unlocked;
   }
 
   shares : (length left.own ≡ v.plan.share * (length v.numbers - 1)) × (length right.own ≡ v.plan.share)
@@ -174,7 +178,7 @@ module _ (m : Moment) (free holding : List ℕ) (fresh : IsFresh m.view free hol
     own_once = (once_parts (nodes_of left.own) (nodes_of right.own) own_once).0;
     share = shares.0 ∙ ap (λ n. v.plan.share * n) (sym left_length);
     removes_left = ap (λ n. v.plan.removes * n) (sym left_length);
-  })
+  }) (quiet_unlocked split_ok.claims split_ok.writer quiet_all)
 
   right_ok : SeatOk v.plan split_after place right
   right_ok = part_ok place right.numbers right.own right.changes right.removes (record {
@@ -186,7 +190,7 @@ module _ (m : Moment) (free holding : List ℕ) (fresh : IsFresh m.view free hol
     own_once = (once_parts (nodes_of left.own) (nodes_of right.own) own_once).1;
     share = omega (arith, shares.1, ap (λ n. v.plan.share * n) right_length);
     removes_left = omega (arith, ap (λ n. v.plan.removes * n) right_length);
-  })
+  }) (λ k e. let low = m.rule.lockers k place e in omega arith)
 
   each_split : (s : ℕ) (u : View) → get_elem? (set m.vs m.id left ++ right ∷ []) s ≡ some u → SeatOk v.plan split_after s u
   each_split s u e = ⊎_elim
@@ -206,6 +210,8 @@ module _ (m : Moment) (free holding : List ℕ) (fresh : IsFresh m.view free hol
     cells = handed_cells v.plan W m.id class_split holder_split hands m.rule.cells;
     guards = m.rule.guards;
     seats = each_split;
+    versions = m.rule.versions;
+    lockers = λ k s e. let low = m.rule.lockers k s e in omega (arith, length-append (set m.vs m.id left) (right ∷ []), length-set m.vs m.id left);
     budget = let b = m.rule.budget in let some_number = m.numbered in omega (
       arith,
       sum_by_push (λ (u : View). u.changes) (set m.vs m.id left) right,

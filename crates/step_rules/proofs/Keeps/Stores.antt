@@ -1,5 +1,5 @@
 -- NODE STORE keeps the rule.
-use Rattle.std.proofs.Common.{le_refl, ◌≡◌, ◌≢◌, ℕ, ◌+◌, ◌<◌, suc, zero, true, List, [], ◌∷◌, length, map, set, eqb, eq-eqb, ne_eqb, refl, sym, ap, ◌∙◌, subst}
+use Rattle.std.proofs.Common.{le_refl, ◌≡◌, ◌≢◌, ℕ, ◌+◌, ◌/◌, ◌<◌, suc, zero, true, List, [], ◌∷◌, length, map, set, eqb, eq-eqb, ne_eqb, refl, sym, ap, ◌∙◌, subst}
 use Rattle.std.proofs.Common.{arith, ⊎_elim}
 use Rattle.std.proofs.lemmas.Bool.{cases_eq, cond-false, cond-true}
 use Rattle.std.proofs.lemmas.List.{append-nil, length-map, length-set}
@@ -10,7 +10,9 @@ use Rattle.seat_history.proofs.Changed.{set_at_here}
 use Rattle.seat_history.specs.Contents.{set_at}
 use Rattle.step_rules.proofs.Rely.Advance.{claims_kept, none_other}
 use Rattle.step_rules.proofs.World.Chains.{cell_stays}
-use Rattle.step_rules.proofs.World.Frames.{backup_else, claim_else, is_set, node_else, node_here, one_place, set_at_else}
+use Rattle.step_rules.proofs.Rely.Seeing.{cell_node}
+use Rattle.step_rules.proofs.Rely.Writers.{locks_stay, versions_step}
+use Rattle.step_rules.proofs.World.Frames.{backup_else, claim_else, is_set, node_else, node_here, node_store, one_place, set_at_else}
 use Rattle.step_rules.proofs.Rely.Moments.{Made, Moment, advance, moment, seat, store_owed, world}
 use Rattle.step_rules.proofs.Numbers.Sets.{at_has}
 use Rattle.step_rules.proofs.Line.Trails.{goes_on_same, trail_step}
@@ -23,6 +25,7 @@ use Rattle.step_rules.specs.Seats.{Leaves, SeatOk}
 use Rattle.step_rules.specs.Stock.{IsStock}
 use Rattle.step_rules.specs.Views.{counted, stored_in, stored_view}
 use Rattle.step_rules.specs.World.{Own, Once, World, has, nodes_of}
+use Rattle.step_rules.specs.Writers.{sites}
 use Rattle.step_rules.specs.declared.layout.TheConstants.{NODE_WIDTH}
 use Rattle.step_rules.specs.declared.plan.Plan.{Plan}
 use Rattle.step_rules.specs.declared.view.Claim.{Claim}
@@ -74,6 +77,10 @@ module _ (m : Moment) (n j x : ℕ) (mine : m.unwritten.class n ≡ Own m.id) (i
     log = W.log;
     word = λ w. claim_else p m.ws (node_at p n j) x w (λ lt e. omega arith) i;
     guard = W.guard;
+    version = λ k. (node_store p m.ws n j x).version k i;
+    inline = λ k. (node_store p m.ws n j x).inline k i;
+    locker = W.locker;
+    source = W.source;
   }
 
   -- a node that isn't the seat's own keeps its words
@@ -97,6 +104,7 @@ module _ (m : Moment) (n j x : ℕ) (mine : m.unwritten.class n ≡ Own m.id) (i
     falls = λ k h. le_refl (W.backup k);
     chain = λ k h. refl;
     fresh = λ y c k i h t e g. tt;
+    locks = locks_stay s (sites W) (sites after) (λ k. refl) (λ k. refl) (λ k. refl) (λ k u. refl);
   }
 
   -- the seat's claims stand on other nodes
@@ -141,6 +149,9 @@ module _ (m : Moment) (n j x : ℕ) (mine : m.unwritten.class n ≡ Own m.id) (i
     look = o.look;
     claims = claims_kept o.claims W.class after.node (λ c k y at on. (set_at_else W.node n k (set (W.node n) j x) (λ e. elsewhere c y at (subst (On y) e on)), λ t own. own));
     scan = o.scan;
+    versions = versions_step (counted (NodeStore n j x) x (length v.seen)) (λ k e. cc) o.versions;
+    writer = o.writer;
+    reader = o.reader;
   }
 
   writes : Made m ws' (stored_view n j x m.view)
@@ -152,6 +163,14 @@ module _ (m : Moment) (n j x : ℕ) (mine : m.unwritten.class n ≡ Own m.id) (i
     cells = record { cell = λ k lt. cell_stays W after refl refl refl (λ i h. (h, node_stays i (λ e. cc))) (m.rule.cells.cell k lt) };
     guards = m.rule.guards;
     history = m.rule.history;
+    versions = λ k lt. let b = m.rule.versions k lt in record {
+      locked = b.locked;
+      dated = b.dated;
+      passed = b.passed;
+      copied = λ even still. let live = (cell_node p W k (m.rule.cells.cell k lt)).class in b.copied even still ∙ sym (node_stays (W.backup k / 2) (λ own. cc));
+      settled = b.settled;
+    };
+    lockers = m.rule.lockers;
     budget = le_refl (length W.log + m.view.changes);
   })
 

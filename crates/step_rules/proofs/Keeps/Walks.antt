@@ -92,7 +92,7 @@ module _ (m : Moment) (k y n : ℕ) (inside : k < cells m.view.plan) (may_walk :
       (λ tells. absurd (walk_tells tells))
 
   pub walk_made : Made m m.ws walking_view
-  walk_made = stands_then m WALK k y (walked_claim n k (length log) v) inside (omega arith) may may_walk.named
+  walk_made = stands_then m WALK k y (walked_claim n k (length log) v) inside (omega arith) (λ e. omega arith) may may_walk.named
 
   pub walk_told : Walks k y (backup_word p m.ws k) n v walking_view
   walk_told = let seen = (seat m).seen in record {
@@ -117,6 +117,6 @@ walks slots id me k y n numbered inside may s r _ at _ =
     load_owed id me numbered s r at _ (backup_at v.plan k) w (walk_made m k y n inside may same) refl numbered (λ i e. let q = one_cell v.plan k i e in
     subst (λ (z : ℕ × ℕ). WalkRechecks z.0 y z.1 n v w) (λ j. (q j, sym found j)) (record { same = λ _. walk_told m k y n inside may same; other = λ ne. absurd (ne same) })))
     (λ (other : x / 2 ≢ y / 2). let w = seeing m (Recheck WALK k y) k inside in
-    load_owed id me numbered s r at _ (backup_at v.plan k) w (sees m (Recheck WALK k y) k inside) refl numbered (λ i e. let q = one_cell v.plan k i e in
+    load_owed id me numbered s r at _ (backup_at v.plan k) w (sees m (Recheck WALK k y) k inside (λ j e. cc)) refl numbered (λ i e. let q = one_cell v.plan k i e in
     subst (λ (z : ℕ × ℕ). WalkRechecks z.0 y z.1 n v w) (λ j. (q j, sym found j)) (record { same = λ same. absurd (other same); other = λ _. sees_told m (Recheck WALK k y) k inside })))
     (cases_eq (x / 2) (y / 2))

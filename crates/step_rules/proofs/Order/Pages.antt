@@ -1,5 +1,5 @@
 -- What the words of a claimed chain tell of the cell's records.
-use Rattle.std.proofs.Common.{◌≡◌, ◌∙◌, ℕ, ◌-◌, ◌<◌, suc, zero, Bool, true, false, eqb, ne_eqb, List, [], ◌∷◌, length, take, drop, get_or, refl, sym, ap, subst, arith, ⊎_elim}
+use Rattle.std.proofs.Common.{◌≡◌, ◌≢◌, ◌∙◌, ℕ, ◌-◌, ◌<◌, suc, zero, Bool, true, false, eqb, eq-eqb, ne_eqb, List, [], ◌∷◌, length, take, drop, get_or, refl, sym, ap, subst, arith, ⊎_elim}
 use Rattle.std.proofs.lemmas.Bool.{cases_Bool, cond-true, cond-false, false≢true, or_from}
 use mathlib.Core.Option.{some, some-injective, some-ne-none}
 use lib.ListN.{get_elem?}
@@ -7,6 +7,7 @@ use Rattle.seat_history.specs.declared.entry.Entry.{Entry}
 use Rattle.step_rules.proofs.Order.Edits.{records_short}
 use Rattle.step_rules.proofs.Numbers.Sets.{has_at}
 use Rattle.step_rules.specs.Claims.{IsClaim}
+use Rattle.step_rules.specs.Readers.{IsFirst, next_word}
 use Rattle.step_rules.specs.Records.{IsCounted, record_in, records_at, records_of}
 use Rattle.step_rules.specs.World.{END, Linked, Once, has, link, next_of, nodes_of}
 use Rattle.step_rules.specs.declared.layout.TheConstants.{NODE_WIDTH}
@@ -24,6 +25,26 @@ end_none h (g ∷ r) counted linked e = absurd (let z : 0 ≡ suc g.node = sym (
 
 pub first_record : (h : Held) (r : List Held) → is_end h.words ≡ false → records_of (h ∷ r) ≡ record_in h.words ∷ records_of r
 first_record h r e = cond-false (is_end h.words) (records_of r) (record_in h.words ∷ records_of r) e
+
+-- what the words of a whole chain's first node tell of its records
+pub first_of : (h : Held) (r : List Held) → IsCounted (h ∷ r) → Linked (h ∷ r) 0 → IsFirst (records_of (h ∷ r)) h.words
+first_of h r counted linked = record {
+  empty = λ e. end_none h r counted linked (eq-eqb (next_word h.words) END e);
+  first = λ ne. (records_of r, first_record h r (ne_eqb (next_word h.words) END ne));
+  one = λ e. alone r e counted linked;
+  more = λ some_next ne. goes_on r some_next ne counted linked;
+}
+  where
+    next_is : (ws : List ℕ) → next_word ws ≢ END → next_of ws ≡ next_word ws
+    next_is ws ne = cond-false (is_end ws) 0 (next_word ws) (ne_eqb (next_word ws) END ne)
+
+    alone : (l : List Held) → next_word h.words ≡ 0 → IsCounted (h ∷ l) → Linked (h ∷ l) 0 → length (records_of (h ∷ l)) ≡ 1
+    alone [] e all chain = ap (length {A = List ℕ}) (first_record h [] (ne_eqb (next_word h.words) END (λ q. let z = sym e ∙ q in omega arith)))
+    alone (g ∷ l) e all chain = absurd (let z = sym chain.0 ∙ (next_is h.words (λ q. let y = sym e ∙ q in omega arith) ∙ e) in omega arith)
+
+    goes_on : (l : List Held) → next_word h.words ≢ 0 → next_word h.words ≢ END → IsCounted (h ∷ l) → Linked (h ∷ l) 0 → 1 < length (records_of (h ∷ l))
+    goes_on [] some_next ne all chain = absurd (some_next (sym (next_is h.words ne) ∙ chain.0))
+    goes_on (g ∷ l) some_next ne all chain = omega (arith, all)
 
 pub record PageTells (p : Plan) (seen : List Entry) (x : Claim) : Type 0 where
   pub none : is_end x.image ≡ true → records_at p (take x.at seen) x.cell ≡ []

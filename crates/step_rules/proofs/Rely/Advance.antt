@@ -1,5 +1,5 @@
 -- What a step of another seat leaves of what the rule says of a seat.
-use Rattle.std.proofs.Common.{◌≡◌, ◌≢◌, ℕ, ◌+◌, ◌/◌, ◌<◌, ◌≤◌, true, cond, List, [], ◌∷◌, ◌++◌, length, drop, get_or, ⊎_elim, refl, sym, ap, ◌∙◌}
+use Rattle.std.proofs.Common.{◌≡◌, ◌≢◌, ℕ, ◌+◌, ◌/◌, ◌<◌, ◌≤◌, true, cond, List, [], ◌∷◌, ◌++◌, length, drop, take, get_or, ⊎_elim, refl, sym, ap, ◌∙◌}
 use Rattle.std.proofs.Common.{subst, arith}
 use Rattle.std.proofs.lemmas.Bool.{cases_Bool, cases_eq, cond-false, cond-true}
 use Rattle.std.proofs.lemmas.List.{append_assoc, drop-append-le, length-append}
@@ -8,6 +8,7 @@ use lib.ListN.{get_elem?}
 use Rattle.seat_history.specs.declared.entry.Entry.{Entry}
 use Rattle.step_rules.proofs.Numbers.Places.{at_below, at_there}
 use Rattle.step_rules.proofs.Numbers.Sets.{any_number, has_first}
+use Rattle.step_rules.proofs.Rely.Readers.{reader_moves}
 use Rattle.step_rules.specs.Claims.{OWN, On, SeatClaims, Tells}
 use Rattle.step_rules.specs.History.{GoesOn, NoneBy, NoneOn}
 use Rattle.step_rules.specs.Layout.{claim_at}
@@ -15,11 +16,13 @@ use Rattle.step_rules.specs.Looks.{IsLook, LookHolds}
 use Rattle.step_rules.specs.Seats.{Leaves, SeatOk}
 use Rattle.step_rules.specs.Views.{silent}
 use Rattle.step_rules.specs.World.{Class, Own, World, has}
+use Rattle.step_rules.specs.Writers.{Flies, SeatWriter, sites}
 use Rattle.step_rules.specs.declared.layout.TheConstants.{CLAIMS}
 use Rattle.step_rules.specs.declared.plan.Plan.{Plan}
 use Rattle.step_rules.specs.declared.view.Claim.{Claim}
 use Rattle.step_rules.specs.declared.view.Look.{Look}
 use Rattle.step_rules.specs.declared.view.View.{View}
+use Rattle.step_rules.specs.declared.view.Writer.{Writer}
 
 pub none_by-append : (x : ℕ) (a b : List Entry) → NoneBy x a → NoneBy x b → NoneBy x (a ++ b)
 none_by-append x [] b h g = g
@@ -109,7 +112,7 @@ module _ {p : Plan} {W : World} {s : ℕ} {numbers : List ℕ} {least : ℕ} {se
       mine c n x at on = first (claim_numbered c n x at on)
 
       quiet : (c n : ℕ) (x : Claim) → get_elem? claims c ≡ some x → Tells c → On x n → W'.backup x.cell / 2 ≡ n → NoneOn p x.cell more
-      quiet c n x at tells on e = leaves.fresh least c n x.cell (mine c n x at on) tells (guarded c n x at on) e
+      quiet c n x at tells on e = leaves.fresh least c n x.cell (mine c n x at on) (claim_inside c x at) (guarded c n x at on) e
 
   -- where their nodes keep their words and become no seat's own, and all else stays
   pub claims_kept : (class : ℕ → Class) (node : ℕ → List ℕ)
@@ -127,6 +130,43 @@ module _ {p : Plan} {W : World} {s : ℕ} {numbers : List ℕ} {least : ℕ} {se
     pages = k.pages;
   }
 
+-- what a step of another seat leaves of a seat's change in flight
+module _ {p : Plan} {W : World} {s : ℕ} {numbers : List ℕ} {least : ℕ} {seen : List Entry} {claims : List Claim} (k : SeatClaims p W s numbers least seen claims) (w : Writer)
+    (o : SeatWriter p (sites W) s seen (get_or claims OWN (silent 0)) w) where
+  abbrev mine : Claim
+  mine = get_or claims OWN (silent 0)
+
+  mine_at : get_elem? claims OWN ≡ some mine
+  mine_at = claim_found k OWN (omega arith)
+
+  -- its node is guarded
+  pub own_guarded : Flies w → W.guard (claim_at least OWN) ≡ w.node + 1
+  own_guarded flies = guarded k OWN w.node mine mine_at (o.sound.own flies)
+
+  pub own_numbered : Flies w → 0 < length numbers
+  own_numbered flies = claim_numbered k OWN w.node mine mine_at (o.sound.own flies)
+
+  pub writer_stable : (W' : World) (rest more : List Entry) → (0 < length numbers → has numbers least ≡ true) → W.log ≡ seen ++ rest → Leaves p s numbers W W' more
+      → SeatWriter p (sites W') s seen mine w
+  writer_stable W' rest more first whole leaves = let keeps = leaves.locks in record {
+    sound = o.sound;
+    before = λ flies u found. let a = o.before flies u found in let b = keeps.version w.cell in omega arith;
+    last = λ flies names.
+        let none : NoneOn p w.cell more = leaves.fresh least OWN w.node w.cell (first (own_numbered flies)) (omega arith) (own_guarded flies) names in
+        subst (NoneOn p w.cell) (sym (longer flies)) (none_on-append p w.cell (drop (w.change + 1) W.log) more (o.last flies (sym (leaves.same w.cell none) ∙ names)) none);
+    free = λ flies t own. o.free flies t (leaves.taken least OWN w.node t (first (own_numbered flies)) (omega arith) (own_guarded flies) own);
+    locked = λ e. let q = o.locked e in let r = keeps.locked w.cell q.0 in (r.0, r.1 ∙ q.1, ap (take w.stores) r.2 ∙ q.2);
+    released = λ e. let a = o.released e in let b = keeps.version w.cell in omega arith;
+    locks = λ j e. o.locks j (keeps.locks j e);
+    stays = λ flies none. let parts = none_on_parts p w.cell (drop (w.change + 1) W.log) more (subst (NoneOn p w.cell) (longer flies) none) in leaves.same w.cell parts.1 ∙ o.stays flies parts.0;
+    later = λ flies u found. let a = o.later flies u found in let same = keeps.source w.cell u (o.before flies u found) in omega arith;
+    sourced = λ e. keeps.source w.cell (w.version + 2) (o.released e) ∙ o.sourced e;
+  }
+    where
+      longer : Flies w → drop (w.change + 1) W'.log ≡ drop (w.change + 1) W.log ++ more
+      longer flies = let e = o.sound.change flies in let low = at_below seen w.change e.0 e.1 in
+          ap (drop (w.change + 1)) leaves.log ∙ drop_more seen rest W.log more (w.change + 1) whole (omega arith)
+
 -- a claim that tells of a record isn't Own
 pub tells_else : (c : ℕ) → Tells c → c ≢ OWN
 tells_else c tells e = ⊎_elim (λ q. omega arith) (λ q. omega arith) tells
@@ -134,13 +174,10 @@ tells_else c tells e = ⊎_elim (λ q. omega arith) (λ q. omega arith) tells
 pub tells_inside : (c : ℕ) → Tells c → c < CLAIMS
 tells_inside c tells = ⊎_elim (λ q. omega arith) (λ q. omega arith) tells
 
--- the seats that a claim in a seat's word keeps from a node: other seats always, and itself where it tells of a record
+-- a claim in a seat's word keeps other seats from its node
 module _ {p : Plan} {W : World} {s : ℕ} {v : View} (ok : SeatOk p W s v) where
   pub none_other : (id x c n : ℕ) → s ≢ id → has v.numbers x ≡ true → c < CLAIMS → W.guard (claim_at x c) ≡ n + 1 → W.class n ≢ Own id
   none_other id x c n ne holds inside stands mine = let y = standing_there ok.claims x c n holds inside stands in ne (sym (ok.claims.kept c n id y.0 y.1 y.2 mine).1)
-
-  pub claimed_free : (x c n t : ℕ) → has v.numbers x ≡ true → Tells c → W.guard (claim_at x c) ≡ n + 1 → W.class n ≢ Own t
-  claimed_free x c n t holds tells stands own = let y = standing_there ok.claims x c n holds (tells_inside c tells) stands in tells_else c tells (ok.claims.kept c n t y.0 y.1 y.2 own).0
 
   -- a step of another seat keeps what the rule says of a seat
   pub stable : (W' : World) (more : List Entry) → Leaves p s v.numbers W W' more → SeatOk p W' s v
@@ -178,6 +215,9 @@ module _ {p : Plan} {W : World} {s : ℕ} {v : View} (ok : SeatOk p W s v) where
       sound = ok.scan.sound;
       found = λ w n lt on old. ok.scan.found w n lt (leaves.quiet w n (ok.nodes.retired n (ok.scan.sound.old n old)) on) old;
     };
+    versions = record { found = λ k u found. let a = ok.versions.found k u found in let b = leaves.locks.version k in omega arith };
+    reader = reader_moves leaves.locks.version leaves.locks.inline ok.reader;
+    writer = writer_stable ok.claims v.writer ok.writer W' ok.seen.rest more (has_first v.numbers) ok.seen.whole leaves;
   }
 
 -- what goes on to a part goes on to what goes on from that

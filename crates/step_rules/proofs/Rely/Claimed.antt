@@ -1,5 +1,5 @@
 -- One claim of a seat becomes another.
-use Rattle.std.proofs.Common.{◌≡◌, ◌≢◌, ℕ, ◌+◌, ◌/◌, ◌<◌, true, List, [], ◌++◌, length, drop, set, refl, sym, ap, ◌∙◌, subst, arith, le_refl, ◌⊎◌, inl}
+use Rattle.std.proofs.Common.{◌≡◌, ◌≢◌, ℕ, ◌+◌, ◌/◌, ◌<◌, true, List, [], ◌++◌, length, drop, set, get_or, refl, sym, ap, ◌∙◌, subst, arith, le_refl, ◌⊎◌, inl}
 use Rattle.std.proofs.Common.{inr, ⊎_elim, append-nil, length-append}
 use Rattle.std.proofs.lemmas.Bool.{cases_eq, false≢true}
 use Rattle.std.proofs.lemmas.List.{length-set, take-append-le}
@@ -14,15 +14,19 @@ use Rattle.step_rules.specs.Layout.{claim_at, nodes, words}
 use Rattle.step_rules.specs.Records.{records_at}
 use Rattle.step_rules.specs.Seats.{Leaves, SeatOk}
 use Rattle.step_rules.specs.Trail.{IsTrail}
+use Rattle.step_rules.specs.Versions.{SeatVersions}
 use Rattle.step_rules.specs.Views.{number, silent, standing}
 use Rattle.step_rules.specs.World.{Own, Retired, Unwritten, World}
+use Rattle.step_rules.specs.Writers.{SeatWriter, sites}
 use Rattle.step_rules.specs.declared.layout.TheConstants.{CLAIMS, NODE_WIDTH}
 use Rattle.step_rules.specs.declared.plan.Plan.{Plan}
 use Rattle.step_rules.specs.declared.view.Claim.{Claim}
 use Rattle.step_rules.specs.declared.view.Counted.{Counted}
 use Rattle.step_rules.specs.declared.view.Held.{Held}
 use Rattle.step_rules.specs.declared.view.View.{View}
+use Rattle.step_rules.specs.declared.view.Writer.{Writer}
 use Rattle.step_rules.proofs.Rely.Advance.{stood_in, stood_on}
+use Rattle.step_rules.proofs.Rely.Writers.{locks_stay}
 use Rattle.step_rules.proofs.World.Chains.{cell_stays}
 use Rattle.step_rules.proofs.World.Frames.{one_claim, set_at_else}
 use Rattle.step_rules.proofs.Rely.Moments.{Made, Moment, advance, world}
@@ -170,7 +174,8 @@ module _ {p : Plan} {W : World} {id : ℕ} {v : View} {c : ℕ} {x : Claim} (t :
     same = λ k h. refl;
     falls = λ k h. le_refl (W.backup k);
     chain = λ k h. refl;
-    fresh = λ y d n k h tells e names. tt;
+    fresh = λ y d n k h lt e names. tt;
+    locks = locks_stay s (sites W) (sites turned) (λ k. refl) (λ k. refl) (λ k. refl) (λ k u. refl);
   }
 
   pub turned_cells : CellsAgree p W → CellsAgree p turned
@@ -210,8 +215,9 @@ module _ {p : Plan} {W : World} {id : ℕ} {v : View} {c : ℕ} {x : Claim} (t :
   }
 
   -- the seat's claim is x then, and nothing else changes that the rule speaks of but the counted steps
-  pub turned_seat : (trail : List Counted) → IsTrail v.since trail v.seen → SeatOk p turned id (record v { claims = set v.claims c x; trail = trail })
-  turned_seat trail counts = record {
+  pub turned_seat : (trail : List Counted) (writer : Writer) → IsTrail v.since trail v.seen → SeatVersions W.version trail → SeatWriter p (sites W) id v.seen (get_or (set v.claims c x) OWN (silent 0)) writer
+      → SeatOk p turned id (record v { claims = set v.claims c x; trail = trail; writer = writer })
+  turned_seat trail writer counts versions flight = record {
     plan = t.ok.plan;
     numbers = t.ok.numbers;
     nodes = t.ok.nodes;
@@ -223,6 +229,9 @@ module _ {p : Plan} {W : World} {id : ℕ} {v : View} {c : ℕ} {x : Claim} (t :
     look = t.ok.look;
     claims = turned_claims;
     scan = record { sound = t.ok.scan.sound; found = λ w n lt e old. t.ok.scan.found w n lt (quiet w n id (t.ok.nodes.retired n (t.ok.scan.sound.old n old)) e) old };
+    versions = versions;
+    writer = flight;
+    reader = t.ok.reader;
   }
 
 -- what no word says, as the claim word w gets the claim x
@@ -230,18 +239,20 @@ abbrev pub with_claim : Unwritten → ℕ → Claim → Unwritten
 with_claim U w x = record U { guard = set_at U.guard w (stood_in x) }
 
 -- the claim c becomes x: of a view that the seat has, or has with what it sees by this step, its word being in the words by then
-pub turn : (m : Moment) (ws : List ℕ) (trail : List Counted) {view : View} {c : ℕ} {x : Claim} (t : MayTurn m.view.plan (world m) m.id view c x)
-    → IsTrail view.since trail view.seen
+pub turn : (m : Moment) (ws : List ℕ) (trail : List Counted) (writer : Writer) {view : View} {c : ℕ} {x : Claim} (t : MayTurn m.view.plan (world m) m.id view c x)
+    → IsTrail view.since trail view.seen → SeatVersions (world m).version trail → SeatWriter m.view.plan (sites (world m)) m.id view.seen (get_or (set view.claims c x) OWN (silent 0)) writer
     → view.changes ≡ m.view.changes → length ws ≡ words m.view.plan → world_of m.view.plan ws (with_claim m.unwritten (claim_at (number view) c) x) ≡ turned t
-    → Made m ws (record view { claims = set view.claims c x; trail = trail })
-turn m ws trail {view = view} {c = c} {x = x} t counts changes wide is =
-    advance m ws (with_claim m.unwritten (claim_at (number view) c) x) (turned t) [] (record view { claims = set view.claims c x; trail = trail }) (record {
+    → Made m ws (record view { claims = set view.claims c x; trail = trail; writer = writer })
+turn m ws trail writer {view = view} {c = c} {x = x} t counts versions flight changes wide is =
+    advance m ws (with_claim m.unwritten (claim_at (number view) c) x) (turned t) [] (record view { claims = set view.claims c x; trail = trail; writer = writer }) (record {
       is = is;
       wide = wide;
-      own = turned_seat t trail counts;
+      own = turned_seat t trail writer counts versions flight;
       others = turned_leaves t;
       cells = turned_cells t m.rule.cells;
       guards = turned_guards t m.rule.guards;
       history = m.rule.history;
+      versions = m.rule.versions;
+      lockers = m.rule.lockers;
       budget = omega arith;
     })

@@ -1,7 +1,7 @@
 -- A step of a seat: the table before it, what its kind shows of the table after it, and what it owes.
 use Rattle.std.proofs.Common.{◌≡◌, ◌≢◌, ℕ, ◌+◌, ◌*◌, ◌<◌, ◌≤◌, zero, suc, List, [], ◌∷◌, length, length-append, set, get_or, sum_by, ⊎_elim, refl, sym, ap}
 use Rattle.std.proofs.Common.{◌∙◌, subst, arith}
-use Rattle.std.proofs.lemmas.List.{set-get_or}
+use Rattle.std.proofs.lemmas.List.{length-set, set-get_or}
 use Rattle.std.proofs.lemmas.List.Sums.{sum_by-cons}
 use mathlib.Core.Option.{some, some-ne-none}
 use lib.ListN.{get_elem?}
@@ -15,11 +15,12 @@ use Rattle.step_rules.proofs.World.Handing.{handed_leaves}
 use Rattle.step_rules.specs.Cells.{CellsAgree}
 use Rattle.step_rules.specs.Claims.{Guards}
 use Rattle.step_rules.specs.History.{IsHistory}
-use Rattle.step_rules.specs.Layout.{IsPlan, words}
+use Rattle.step_rules.specs.Layout.{IsPlan, cells, words}
 use Rattle.step_rules.specs.Plays.{Mine, Told}
 use Rattle.step_rules.specs.Rule.{Holds, HoldsAt, world_of}
 use Rattle.step_rules.specs.Seats.{Leaves, SeatOk}
 use Rattle.step_rules.specs.Sound.{Sound}
+use Rattle.step_rules.specs.Versions.{VersionedAt}
 use Rattle.step_rules.specs.World.{Unwritten, World}
 use Rattle.step_rules.specs.declared.plan.Plan.{Plan}
 use Rattle.step_rules.specs.declared.view.View.{View}
@@ -62,6 +63,8 @@ sound_of W id v plan ok history budget numbered = record {
   look = ok.look.is;
   claims = ok.claims.sound;
   scan = ok.scan.sound;
+  writer = ok.writer.sound;
+  reader = ok.reader.sound;
   within = let parts = ap (length {A = Entry}) ok.seen.whole ∙ length-append v.seen ok.seen.rest in omega arith;
 }
 
@@ -110,9 +113,11 @@ pub record Shows (m : Moment) (ws : List ℕ) (U : Unwritten) (W : World) (more 
   pub wide : length ws ≡ words m.view.plan
   pub own : SeatOk m.view.plan W m.id view
   pub others : (s : ℕ) (u : View) → s ≢ m.id → SeatOk m.view.plan (world m) s u → Leaves m.view.plan s u.numbers (world m) W more
+  pub versions : (k : ℕ) → k < cells m.view.plan → VersionedAt m.view.plan W k
   pub cells : CellsAgree m.view.plan W
   pub guards : Guards m.view.plan W.word W.guard
   pub history : IsHistory m.view.plan W.log
+  pub lockers : (k s : ℕ) → W.locker k ≡ s + 1 → s < length m.vs
   pub budget : length W.log + view.changes ≤ length m.unwritten.log + m.view.changes
 
 pub advance : (m : Moment) (ws : List ℕ) (U : Unwritten) (W : World) (more : List Entry) (view : View) → Shows m ws U W more view → Made m ws view
@@ -125,6 +130,8 @@ advance m ws U W more view shows = record {
     cells = subst (CellsAgree m.view.plan) (sym shows.is) shows.cells;
     guards = subst (λ (V : World). Guards m.view.plan V.word V.guard) (sym shows.is) shows.guards;
     seats = λ s u at. subst (λ (V : World). SeatOk m.view.plan V s u) (sym shows.is) (each s u at);
+    versions = λ k lt. subst (λ (V : World). VersionedAt m.view.plan V k) (sym shows.is) (shows.versions k lt);
+    lockers = λ k s e. let low = shows.lockers k s (ap (λ (V : World). V.locker k) (sym shows.is) ∙ e) in omega (arith, length-set m.vs m.id view);
     budget = let log : length U.log ≡ length W.log = ap (λ (V : World). length V.log) shows.is in
         let now = shows.budget in let before = m.rule.budget in let t = total_set (λ (u : View). u.changes) m.vs m.id m.view view m.at in omega arith;
   };
@@ -147,6 +154,8 @@ own_step m view own budget = advance m m.ws m.unwritten (world m) [] view (recor
   cells = m.rule.cells;
   guards = m.rule.guards;
   history = m.rule.history;
+  versions = m.rule.versions;
+  lockers = m.rule.lockers;
   budget = omega arith;
 })
 

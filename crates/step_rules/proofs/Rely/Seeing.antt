@@ -1,31 +1,41 @@
 -- What a seat sees of a register's cell, by a load of its backup or an exchange that found another word.
-use Rattle.std.proofs.Common.{◌≡◌, ◌≢◌, ℕ, suc, true, ◌+◌, ◌/◌, ◌<◌, ◌≤◌, [], ◌∷◌, ◌++◌, List, Some, length, drop, refl, sym, ap, ◌∙◌, subst}
+use Rattle.std.proofs.Common.{◌≡◌, ◌≢◌, ℕ, suc, true, ◌+◌, ◌/◌, ◌<◌, ◌≤◌, [], ◌∷◌, ◌++◌, List, Some, length, drop, take, refl, sym, ap, ◌∙◌, subst}
 use Rattle.std.proofs.Common.{le_refl, append-nil, arith}
+use Rattle.std.proofs.lemmas.List.{take_all}
 use lib.ListN.{get_elem?}
 use Rattle.seat_history.specs.Contents.{Contents}
 use Rattle.seat_history.specs.History.{state_at}
 use Rattle.seat_history.specs.declared.entry.Entry.{Entry}
 use Rattle.step_rules.specs.Cells.{IsCell, register_chain}
-use Rattle.step_rules.specs.Claims.{SeatClaims}
+use Rattle.step_rules.specs.Claims.{OWN, SeatClaims}
 use Rattle.step_rules.specs.History.{NoneBy, NoneOn}
 use Rattle.step_rules.specs.Kinds.Backup.{Looks}
 use Rattle.step_rules.specs.Lawful.{Lawful}
 use Rattle.step_rules.specs.Layout.{cells, nodes}
 use Rattle.step_rules.specs.Looks.{IsLook, LookHolds, SeatLook}
 use Rattle.step_rules.specs.Nodes.{IsNode}
+use Rattle.step_rules.specs.Readers.{IsFirst, SeatReader}
+use Rattle.step_rules.specs.Records.{IsCounted, records_at, records_of}
 use Rattle.step_rules.specs.Rule.{backup_word}
+use Rattle.step_rules.specs.Versions.{IsEven}
 use Rattle.step_rules.specs.Seats.{SeatOk}
 use Rattle.step_rules.specs.Stock.{IsStock}
-use Rattle.step_rules.specs.Views.{counted, look_at, looked_view, number}
-use Rattle.step_rules.specs.World.{World, Live, Chained, has, link}
+use Rattle.step_rules.specs.Views.{claim_of, counted, look_at, looked_view, number, sees_unmarked}
+use Rattle.step_rules.specs.World.{World, Linked, Live, Chained, has, link}
+use Rattle.step_rules.specs.Writers.{SeatWriter, sites}
 use Rattle.step_rules.specs.declared.plan.Plan.{Plan}
 use Rattle.step_rules.specs.declared.view.Held.{Held}
 use Rattle.step_rules.specs.declared.view.Kind.{Kind}
+use Rattle.step_rules.specs.declared.view.Kind.TheVariants.{VersionLoad}
 use Rattle.step_rules.specs.declared.view.Look.{Look}
 use Rattle.step_rules.specs.declared.view.View.{View}
 use Rattle.step_rules.proofs.Rely.Advance.{goes_further}
 use Rattle.step_rules.proofs.World.Chains.{chained_linked}
 use Rattle.step_rules.proofs.Rely.Claimed.{claims_more}
+use Rattle.step_rules.proofs.Order.Pages.{first_of}
+use Rattle.step_rules.proofs.Rely.Readers.{reader_more, sees_reader}
+use Rattle.step_rules.proofs.World.Frames.{inline_wide}
+use Rattle.step_rules.proofs.Rely.Writers.{versions_step, writer_more}
 use Rattle.step_rules.proofs.Order.Edits.{one_node}
 use Rattle.step_rules.proofs.Line.Lawfuls.{lawful_more}
 use Rattle.step_rules.proofs.Rely.Moments.{Made, Moment, own_step, seat, world}
@@ -98,6 +108,9 @@ module _ {p : Plan} {W : World} {s : ℕ} {v : View} (ok : SeatOk p W s v) (rest
   pub claims_seen : SeatClaims p W s v.numbers (number v) es v.claims
   claims_seen = subst (λ (l : List Entry). SeatClaims p W s v.numbers (number v) l v.claims) (sym more) (claims_more rest ok.claims)
 
+  pub writer_seen : SeatWriter p (sites W) s es (claim_of OWN v) v.writer
+  writer_seen = subst (λ (l : List Entry). SeatWriter p (sites W) s l (claim_of OWN v) v.writer) (sym more) (writer_more rest ok.writer)
+
 module _ (m : Moment) (kind : Kind) (k : ℕ) (inside : k < cells m.view.plan) where
   abbrev p : Plan
   p = m.view.plan
@@ -114,8 +127,41 @@ module _ (m : Moment) (kind : Kind) (k : ℕ) (inside : k < cells m.view.plan) w
   abbrev pub seeing : View
   seeing = looked_view kind k x log v
 
-  pub sees_seat : SeatOk p (world m) m.id seeing
-  sees_seat = let o = seat m in record {
+  -- an even version and no mark, so the inline words are those of the cell's first node
+  words_first : (ws : List ℕ) → IsEven x → (world m).inline k ≡ ws → IsFirst (records_at p (take (length log) log) k) ws
+  words_first ws unmarked is =
+      let at = m.rule.versions k inside in
+      let cell = m.rule.cells.cell k inside in
+      let node = cell_node p (world m) k cell in
+      let settled = at.settled unmarked in
+      let h : Held = record { node = x / 2; words = (world m).node (x / 2) } in
+      let first : IsFirst (records_of (h ∷ node.rest)) h.words = first_of h node.rest (subst IsCounted node.chain cell.counted)
+      (subst (λ l. Linked l 0) node.chain (chained_linked (world m) (Live k) ((world m).chain k) 0 cell.chained)) in
+      subst (λ (z : List (List ℕ) × List ℕ). IsFirst z.0 z.1)
+      (λ i. (
+        (ap records_of (sym node.chain) ∙ (cell.records ∙ ap (λ (l : List Entry). records_at p l k) (sym (take_all (length log) log (le_refl (length log)))))) i,
+        (sym (at.copied settled.0 settled.1) ∙ is) i,
+      )) first
+
+  reader_then : SeatReader p (world m).version (world m).inline log (sees_unmarked kind k x (length log) v.reader)
+  reader_then =
+      let o = seat m in
+      let r = v.reader in
+      let before : SeatReader p (world m).version (world m).inline log r =
+      subst (λ (l : List Entry). SeatReader p (world m).version (world m).inline l r) (sym o.seen.whole) (reader_more o.seen.rest o.reader) in
+      sees_reader (SeatReader p (world m).version (world m).inline log) kind k x (length log) r before (λ same unmarked whole. record {
+        sound = record { cell = before.sound.cell; at = le_refl (length log); long = before.sound.long; whole = λ _. whole };
+        old = before.old;
+        words = before.words;
+        told = λ even _ is.
+            let wide = inline_wide p m.ws k m.rule.wide inside in
+            let all : take (length r.words) ((world m).inline k) ≡ r.words = ap (λ j. take (length r.words) ((world m).inline j)) same ∙ before.words even is in
+            subst (λ j. IsFirst (records_at p (take (length log) log) j) r.words) same
+            (words_first r.words unmarked (sym (take_all (length r.words) ((world m).inline k) (omega arith)) ∙ all));
+      })
+
+  pub sees_seat : ((j : ℕ) → kind ≢ VersionLoad j) → SeatOk p (world m) m.id seeing
+  sees_seat other = let o = seat m in record {
     plan = o.plan;
     numbers = o.numbers;
     nodes = o.nodes;
@@ -127,6 +173,9 @@ module _ (m : Moment) (kind : Kind) (k : ℕ) (inside : k < cells m.view.plan) w
     look = look_now p (world m).backup log k x inside (cell_node p (world m) k (m.rule.cells.cell k inside)).is.there refl;
     claims = claims_seen o o.seen.rest log o.seen.whole;
     scan = o.scan;
+    versions = versions_step (counted kind x (length log)) other o.versions;
+    writer = writer_seen o o.seen.rest log o.seen.whole;
+    reader = reader_then;
   }
 
   -- an entry on the cell since the last look at it, where another word was found there
@@ -148,5 +197,5 @@ module _ (m : Moment) (kind : Kind) (k : ℕ) (inside : k < cells m.view.plan) w
     calm = λ c n y e tells stands on same. subst (λ j. NoneOn p j (drop y.at log)) on (o.claims.calm c n y e tells stands (ap (λ j. backup_word p m.ws j / 2) on ∙ same));
   }
 
-  pub sees : Made m m.ws seeing
-  sees = own_step m seeing sees_seat (le_refl v.changes)
+  pub sees : ((j : ℕ) → kind ≢ VersionLoad j) → Made m m.ws seeing
+  sees other = own_step m seeing (sees_seat other) (le_refl v.changes)

@@ -281,7 +281,7 @@ module _ (s : Inside) (whole : IsWhole s) (inner : Seat Call View) (slots : inne
       )
 
   -- the claims are the same, and whether a record is held
-  stepped_so : (w : View) → inner.me.0 ≡ w → lasting w ≡ lasting v → w.scan ≡ v.scan → holds_record w ≡ holds_record v → w.claims ≡ v.claims
+  pub stepped_so : (w : View) → inner.me.0 ≡ w → lasting w ≡ lasting v → w.scan ≡ v.scan → holds_record w ≡ holds_record v → w.claims ≡ v.claims
       → IsWhole (record s { inner = inner; fresh = false })
   stepped_so w after same scan record_same claims_same = stepped_to w s.holds_record s.claims after same scan (whole.0.holds ∙ sym record_same)
       (whole.0.claims ∙ ap (map (λ (x : Claim). x.word)) (sym claims_same))

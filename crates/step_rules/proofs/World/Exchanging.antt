@@ -14,13 +14,15 @@ use Rattle.step_rules.specs.Nodes.{IsNode, SeatNodes}
 use Rattle.step_rules.specs.Records.{IsCounted, records_at, records_of}
 use Rattle.step_rules.specs.Seats.{Leaves, SeatOk}
 use Rattle.step_rules.specs.World.{World, Own, Live, Chained, Once, has, link, nodes_of}
+use Rattle.step_rules.specs.Writers.{sites}
 use Rattle.step_rules.specs.declared.plan.Plan.{Plan}
 use Rattle.step_rules.specs.declared.view.Claim.{Claim}
 use Rattle.step_rules.specs.declared.view.Held.{Held}
 use Rattle.step_rules.specs.declared.view.View.{View}
-use Rattle.step_rules.proofs.Rely.Advance.{claimed_free, drop_more, none_on-append, tells_else}
+use Rattle.step_rules.proofs.Rely.Advance.{none_other, drop_more, none_on-append, tells_else}
 use Rattle.step_rules.proofs.World.Chains.{cell_stays, link-append, head_link, head_has, chained-append, chained_parts, chained_class, chained_move, chained_apart}
 use Rattle.step_rules.proofs.Rely.Claimed.{claims_sound_more}
+use Rattle.step_rules.proofs.Rely.Writers.{locks_stay}
 use Rattle.step_rules.proofs.Order.RecordsAt.{same_records}
 use Rattle.step_rules.proofs.Numbers.Sets.{at_has}
 use Rattle.step_rules.proofs.Numbers.Places.{at_append, at_behind}
@@ -81,10 +83,11 @@ module _ {p : Plan} {a k : ℕ} {dropped kept fresh : List Held} {more : List En
     same = λ j none. ap (λ b. b / 2) (x.others j (λ e. x.here (subst (λ i. NoneOn p i more) e none))).0;
     falls = λ j none. let e = (x.others j (λ e. x.here (subst (λ i. NoneOn p i more) e none))).0 in omega arith;
     chain = λ j none. (x.others j (λ e. x.here (subst (λ i. NoneOn p i more) e none))).1;
-    fresh = λ y c m j h tells e names. ⊎_elim
-        (λ q. absurd (claimed_free ok y c m a h tells e (sym (ap W.class names) ∙ (ap (λ i. W.class (W'.backup i / 2)) q ∙ exchange_head))))
+    fresh = λ y c m j h lt e names. ⊎_elim
+        (λ q. absurd (none_other ok a y c m ne h lt e (sym (ap W.class names) ∙ (ap (λ i. W.class (W'.backup i / 2)) q ∙ exchange_head))))
         (λ q. x.there j q)
         (cases_eq j k);
+    locks = locks_stay s (sites W) (sites W') x.version x.inline x.locker x.source;
   }
 
   -- the seat's own claims: where one tells of the cell's record, the node that the backup names now is another

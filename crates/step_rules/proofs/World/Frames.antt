@@ -3,11 +3,11 @@ use Rattle.std.proofs.Common.{◌≡◌, ◌≢◌, ℕ, ◌+◌, ◌*◌, ◌-�
 use Rattle.std.proofs.Common.{sym, ap, ◌∙◌, arith, ◌⊎◌}
 use Rattle.std.proofs.Common.{⊎_elim, inl, inr, mul-le-mul_left, mul-suc}
 use Rattle.std.proofs.lemmas.Bool.{cases_eq, cases_lt, cond-false, cond-true, lt-ltb, ltb-true}
-use Rattle.std.proofs.lemmas.List.{get_or-drop, get_or-set_same, get_or-set_other, get_or-take, take-set-le, drop-set-lt, drop-set-add}
+use Rattle.std.proofs.lemmas.List.{length-drop, length-take-le, get_or-drop, get_or-set_same, get_or-set_other, get_or-take, take-set-le, drop-set-lt, drop-set-add}
 use Rattle.std.proofs.Math.Seq.{take-set-lt}
 use Rattle.seat_history.proofs.Changed.{set_at_here}
 use Rattle.seat_history.specs.Contents.{set_at}
-use Rattle.step_rules.specs.Layout.{backup_at, cells, claim_at, inline_at, node_at, nodes_at, version_at}
+use Rattle.step_rules.specs.Layout.{backup_at, cells, claim_at, inline_at, node_at, nodes_at, version_at, words}
 use Rattle.step_rules.specs.Rule.{backup_word, claim_word, inline_words, node_words, version_word}
 use Rattle.step_rules.specs.declared.layout.TheConstants.{CLAIMS, NODE_WIDTH}
 use Rattle.step_rules.specs.declared.plan.Plan.{Plan}
@@ -112,6 +112,12 @@ inline_here p ws k j x lt inside =
 pub inline_is : (p : Plan) (ws : List ℕ) (k j : ℕ) → k < cells p → j < NODE_WIDTH → get_or ws (inline_at p k j) 0 ≡ get_or (inline_words p ws k) j 0
 inline_is p ws k j lt inside = words_at_place ws (version_at p k + 2) NODE_WIDTH j inside
     ∙ ap (λ l. get_or l j 0) (sym (cond-true (ltb k (cells p)) (take NODE_WIDTH (drop (version_at p k + 2) ws)) [] (lt-ltb k (cells p) lt)))
+
+-- a cell has as many inline words as a node has words
+pub inline_wide : (p : Plan) (ws : List ℕ) (k : ℕ) → length ws ≡ words p → k < cells p → length (inline_words p ws k) ≡ NODE_WIDTH
+inline_wide p ws k wide lt =
+    ap (length {A = ℕ}) (cond-true (ltb k (cells p)) (take NODE_WIDTH (drop (version_at p k + 2) ws)) [] (lt-ltb k (cells p) lt))
+    ∙ length-take-le NODE_WIDTH (drop (version_at p k + 2) ws) (omega (arith, length-drop (version_at p k + 2) ws, past (NODE_WIDTH + 2) k (cells p) lt))
 
 -- a store elsewhere than in the claim word w
 pub claim_else : (p : Plan) (ws : List ℕ) (i x w : ℕ) → (w < CLAIMS * p.seats → w ≢ i) → claim_word p (set ws i x) w ≡ claim_word p ws w

@@ -2,11 +2,13 @@
 use Rattle.std.proofs.Common.{le_refl, ◌≡◌, ◌≢◌, ℕ, ◌+◌, [], refl, sym}
 use Rattle.std.proofs.lemmas.List.{append-nil}
 use Rattle.step_rules.proofs.Rely.Advance.{none_other, stable}
+use Rattle.step_rules.proofs.Rely.Writers.{locks_stay}
 use Rattle.step_rules.proofs.World.Chains.{cell_stays}
 use Rattle.step_rules.specs.Cells.{CellsAgree}
 use Rattle.step_rules.specs.Layout.{claim_at}
 use Rattle.step_rules.specs.Seats.{Leaves, SeatOk}
 use Rattle.step_rules.specs.World.{Class, Live, Own, Retired, World}
+use Rattle.step_rules.specs.Writers.{sites}
 use Rattle.step_rules.specs.declared.plan.Plan.{Plan}
 use Rattle.step_rules.specs.declared.view.View.{View}
 
@@ -40,7 +42,8 @@ module _ (p : Plan) (W : World) (from : ℕ) (class : ℕ → Class) (holder : �
     same = λ k none. refl;
     falls = λ k none. le_refl (W.backup k);
     chain = λ k none. refl;
-    fresh = λ x c n k h tells g e. tt;
+    fresh = λ x c n k h lt g e. tt;
+    locks = locks_stay s (sites W) (sites handed) (λ k. refl) (λ k. refl) (λ k. refl) (λ k u. refl);
   }
 
   pub handed_seat : (s : ℕ) (u : View) → s ≢ from → SeatOk p W s u → SeatOk p handed s u

@@ -16,7 +16,7 @@ use Rattle.step_rules.specs.Cells.{IsCell, register_chain}
 use Rattle.step_rules.specs.Layout.{IsPlan, backup_at, cells, claim_at, inline_at, node_at, nodes, version_at, words}
 use Rattle.step_rules.specs.Nodes.{IsNode}
 use Rattle.step_rules.specs.Records.{IsCounted, records_of}
-use Rattle.step_rules.specs.Rule.{Holds, backup_word, claim_word, node_words, world_of}
+use Rattle.step_rules.specs.Rule.{Holds, backup_word, claim_word, inline_words, node_words, version_word, world_of}
 use Rattle.step_rules.specs.SeatData.{IsFresh}
 use Rattle.step_rules.specs.Seats.{SeatOk}
 use Rattle.step_rules.specs.Sound.{Sound}
@@ -29,13 +29,15 @@ use Rattle.step_rules.specs.declared.view.Held.{Held}
 use Rattle.step_rules.specs.declared.view.View.{View}
 use Rattle.step_rules.proofs.Rely.Moments.{sound_at}
 use Rattle.step_rules.proofs.World.EmptyBucket.{empty_bucket}
-use Rattle.step_rules.proofs.World.Frames.{node_is}
+use Rattle.step_rules.proofs.World.Frames.{inline_is, inline_wide, node_is}
 use Rattle.step_rules.proofs.Keeps.Scans.{node_wide}
 use Rattle.step_rules.proofs.Numbers.Sets.{has_first, length-count_up}
 use Rattle.step_rules.proofs.World.Sizes.{node_within}
 use Rattle.step_rules.proofs.World.Silent.{claims_quiet, no_claims, no_claims_quiet, no_claims_sound}
 use Rattle.step_rules.proofs.Line.Stocks.{stock_fresh}
 use Rattle.step_rules.proofs.Line.Trails.{no_trail}
+use Rattle.step_rules.proofs.Rely.Readers.{reader_none}
+use Rattle.step_rules.proofs.Rely.Writers.{no_versions, writer_none}
 
 -- counting up gives the numbers of the range, each once
 count_within : (m n x : ℕ) → has (count_up m n) x ≡ true → (m ≤ x) × (x < m + n)
@@ -121,6 +123,8 @@ start_unwritten p = record {
   holder = λ _. 0;
   guard = λ _. 0;
   log = [];
+  locker = λ _. 0;
+  source = λ _ _. 0;
 }
 
 -- a register's chain is one node with zeros
@@ -163,6 +167,21 @@ claim_start p ws w start = ⊎_elim
     (λ e. cond-false (ltb w (CLAIMS * p.seats)) (get_or ws w 0) 0 e)
     (cases_Bool (ltb w (CLAIMS * p.seats)))
 
+inline_first : (p : Plan) (ws : List ℕ) (k : ℕ) → IsStart p ws → k < cells p → inline_words p ws k ≡ zeros ++ first_next p k ∷ []
+inline_first p ws k start lt = ext_get_or 0 (inline_words p ws k) (zeros ++ first_next p k ∷ []) (inline_wide p ws k start.wide lt) word
+  where
+    word : (j : ℕ) → j < length (inline_words p ws k) → get_or (inline_words p ws k) j 0 ≡ get_or (zeros ++ first_next p k ∷ []) j 0
+    word j lt' = let wide = inline_wide p ws k start.wide lt in ⊎_elim
+        (λ (below : j < WIDTH). sym (inline_is p ws k j lt (omega arith)) ∙ (start.inline k j lt below
+        ∙ (sym (get_or_replicate_same WIDTH j 0) ∙ sym (get_or_append_left zeros (first_next p k ∷ []) 0 j below))))
+        (λ (le : WIDTH ≤ j). let is : j ≡ WIDTH = omega arith in
+        ap (λ i. get_or (inline_words p ws k) i 0) is ∙ (sym (inline_is p ws k WIDTH lt (omega arith)) ∙ (start.inline_next k lt
+        ∙ ap (λ i. get_or (zeros ++ first_next p k ∷ []) i 0) (sym is))))
+        (cases_lt j WIDTH)
+
+version_first : (p : Plan) (ws : List ℕ) (k : ℕ) → IsStart p ws → k < cells p → version_word p ws k ≡ 0
+version_first p ws k start lt = cond-true (ltb k (cells p)) (get_or ws (version_at p k) 0) 0 (lt-ltb k (cells p) lt) ∙ start.version k lt
+
 start_seat : (p : Plan) (ws : List ℕ) → IsStart p ws → SeatOk p (world_of p ws (start_unwritten p)) 0 (starting p)
 unfolding nodes
 start_seat p ws start = record {
@@ -195,6 +214,9 @@ start_seat p ws start = record {
   claims = claims_quiet p (world_of p ws (start_unwritten p)) 0 (count_up 0 p.seats) (number (starting p)) [] no_claims
       (has_first (count_up 0 p.seats)) (no_claims_sound p []) no_claims_quiet (λ x c h lt. (claim_start p ws (claim_at x c) start, refl));
   scan = record { sound = record { old = λ n h. absurd (false≢true h); counted = omega arith; within = omega arith }; found = λ w n lt e h. absurd (omega arith) };
+  versions = no_versions (version_word p ws);
+  reader = reader_none [];
+  writer = writer_none (λ flies. flies refl) (λ k e. omega arith);
 }
   where
     own_at : (i : ℕ) (h : Held) → get_elem? (map zero_node (count_up (cells p) (p.seats * p.share))) i ≡ some h
@@ -214,6 +236,14 @@ opens p ws plan start = record {
     cells = record { cell = λ k lt. start_cell p ws k start lt };
     guards = record { named = λ w n e. absurd (omega arith); within = λ w n e. absurd (omega arith) };
     seats = one;
+    versions = λ k lt. let even = version_first p ws k start lt in record {
+      locked = λ odd. absurd (omega arith);
+      dated = λ u. omega arith;
+      passed = λ u is low. absurd (omega arith);
+      copied = λ is none. inline_first p ws k start lt ∙ sym (ap (node_words p ws) (backup_start p ws k start lt) ∙ node_first p ws k start (cell_there p k lt));
+      settled = λ is. (omega arith, tt);
+    };
+    lockers = λ k s e. omega arith;
     budget = omega (arith, mul_comm p.seats p.changes, ap (λ n. p.changes * n) (length-count_up 0 p.seats));
   };
 }

@@ -15,12 +15,15 @@ use Rattle.step_rules.specs.declared.view.Claim.{Claim}
 use Rattle.step_rules.specs.declared.view.Held.{Held}
 use Rattle.step_rules.specs.declared.view.Kind.TheVariants.{Recheck}
 use Rattle.step_rules.specs.declared.view.Look.{Look}
+use Rattle.step_rules.specs.declared.view.Stage.TheVariants.{Locked}
 use Rattle.step_rules.specs.declared.view.View.{View}
 
 -- the claim c may be stored for the node n: on Own, the seat has the node for its own
 pub record MayAnnounce (c n : ℕ) (v : View) : Type 0 where
   pub claim : c < CLAIMS
   pub own : c ≡ OWN → has (nodes_of v.own) n ≡ true
+  -- and no change in flight has the lock of a cell
+  pub unlocked : c ≡ OWN → v.writer.stage ≢ Locked
 
 -- a recheck of the claim c, which names the node of the word x, found the word y in the cell k with this node: the claim stands
 pub record Claims (c k x y : ℕ) (v w : View) : Type 0 where

@@ -30,3 +30,8 @@ pub record Exchanges (p : Plan) (a k : ℕ) (dropped kept fresh : List Held) (mo
   pub node : (m : ℕ) → W'.node m ≡ W.node m
   pub word : (w : ℕ) → W'.word w ≡ W.word w
   pub guard : (w : ℕ) → W'.guard w ≡ W.guard w
+  -- versions and inline words stay, with what is known of them
+  pub version : (j : ℕ) → W'.version j ≡ W.version j
+  pub inline : (j : ℕ) → W'.inline j ≡ W.inline j
+  pub locker : (j : ℕ) → W'.locker j ≡ W.locker j
+  pub source : (j u : ℕ) → W'.source j u ≡ W.source j u

@@ -1,11 +1,12 @@
-ghost use Rattle.std.specs.Prelude.{◌≡◌, ◌<◌};
-ghost use Rattle.step_rules.specs.Claims.{Tells, WALK};
+ghost use Rattle.std.specs.Prelude.{◌≡◌, ◌≢◌, ◌<◌};
+ghost use Rattle.step_rules.specs.Claims.{OWN, Tells, WALK};
 ghost use Rattle.step_rules.specs.Kinds.Walking.{MayRecheck};
 ghost use Rattle.step_rules.specs.Layout.{cells};
 ghost use Rattle.step_rules.specs.SeatData.{IsOf, IsSeat};
 ghost use Rattle.step_rules.specs.Steps.{IsRechecked, IsWalked, MayClaim, stepped, unnoted};
 ghost use Rattle.step_rules.specs.Views.{announced_view, cleared_view};
 ghost use Rattle.step_rules.specs.declared.layout.TheConstants.{CLAIMS};
+ghost use Rattle.step_rules.specs.declared.view.Stage.TheVariants.{Locked};
 
 use crate::place::Rechecking;
 use crate::plays::{Announces, Clears, Rechecks};
@@ -71,10 +72,11 @@ pub fn recheck_load(shared: &Shared, seat: &mut Seat, claim: u32, cell: u32, see
 }
 
 /// Clears a claim word of the seat's least number, and ends the claim that stood in it. On Back what is
-/// noted is taken back.
+/// noted is taken back. On Own the change in flight ends, which has no lock then.
 pub fn claim_clear(shared: &Shared, seat: &mut Seat, claim: u32)
     requires ours { IsOf shared.now seat.old }
     requires claim { claim < CLAIMS }
+    requires unlocked { claim ≡ OWN → seat.old.view.writer.stage ≢ Locked }
     ensures seat { seat.new ≡ stepped (cleared_view claim seat.old.view) (unnoted claim seat.old) }
     ensures law { IsSeat seat.new }
 {

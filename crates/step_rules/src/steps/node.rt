@@ -5,7 +5,7 @@ ghost use Rattle.step_rules.specs.Steps.{IsOwn, IsUnannounced, MayLoad, stepped}
 ghost use Rattle.step_rules.specs.Views.{loaded_view, stored_view};
 ghost use Rattle.step_rules.specs.declared.layout.TheConstants.{NODE_WIDTH};
 
-use crate::plays::{Loads, Stores};
+use crate::plays::{Glances, Loads, Stores};
 use crate::seat::Seat;
 use crate::shared::Shared;
 
@@ -40,4 +40,18 @@ pub fn node_load(shared: &Shared, seat: &mut Seat, node: u32, j: u32) -> u64
     seat.fresh = false;
     let place = shared.node_place(node, j);
     shared.table.shared.load::<Loads>(&mut seat.inner, place)
+}
+
+/// Loads one word of such a node, as a step that isn't counted: a refresh reads its node so.
+pub fn node_glance(shared: &Shared, seat: &mut Seat, node: u32, j: u32) -> u64
+    requires ours { IsOf shared.now seat.old }
+    requires known { MayLoad node seat.old }
+    requires word { j < NODE_WIDTH }
+    ensures seat { seat.new ≡ stepped seat.old.view seat.old }
+    ensures reads { Reads node j result seat.old.view }
+    ensures law { IsSeat seat.new }
+{
+    seat.fresh = false;
+    let place = shared.node_place(node, j);
+    shared.table.shared.load::<Glances>(&mut seat.inner, place)
 }
