@@ -1,204 +1,363 @@
--- What a call that may change its register knows once it has read the record there.
-use Rattle.std.proofs.Common.{◌≡◌, ◌∙◌, ℕ, ◌+◌, ◌-◌, ◌*◌, ◌/◌, ◌<◌, ◌≤◌, Bool, List, [], ◌++◌, Option, None, Some, unwrap_or}
-use Rattle.std.proofs.Common.{length, drop, append-nil, length-append, refl, sym, ap, subst, arith, inl, inr, ⊎_elim}
-use Rattle.std.proofs.Math.Seq.{drop-append_seam}
-use Rattle.big_atomic.proofs.Answered.{MayEnd}
+-- What a call that gives its register a record knows from stage to stage, and how it is answered where it changes nothing.
+use Rattle.std.proofs.Common.{◌≡◌, ◌∙◌, ℕ, ◌+◌, ◌*◌, ◌/◌, ◌<◌, ◌≤◌, Bool, true, false, not, ◌&&◌, cond, List, [], ◌∷◌, ◌++◌, None, Some}
+use Rattle.std.proofs.Common.{length, take, refl, sym, ap, subst, arith, inl, inr, ⊎_elim}
+use Rattle.std.proofs.lemmas.Bool.{and_parts, and_right}
+use Rattle.big_atomic.proofs.Answered.{EndsAs, MayEnd, clear_step, ended_as, right_at}
+use Rattle.big_atomic.proofs.Balance.{CostsNone, nodes_stay}
 use Rattle.big_atomic.proofs.Claimed.{claim_stays, loads_length, loads_still, loads_unscanned, looks_then, read_goes, record_read}
 use Rattle.big_atomic.proofs.Goings.{calling_then}
-use Rattle.big_atomic.proofs.Paid.{scan_loads-append, still_exchanges, still_lost, costs_then, AreStill}
+use Rattle.big_atomic.proofs.Paid.{costs_then, costs_within, exchanges-append, scan_loads-append, still_exchanges, still_lost}
 use Rattle.big_atomic.proofs.Scanning.{scan_all, scan_few, scan_goes, scan_lost, scan_seen, scan_tried, scan_view}
-use Rattle.big_atomic.proofs.Trying.{changing_end}
-use Rattle.big_atomic.specs.Calling.{Began, Costs, Goes, HasClaim, HasOnlyLooked, HasRead, HasRoom, HasSeen, IsChanging, tried_at}
-use Rattle.big_atomic.specs.Calls.{register_at}
+use Rattle.big_atomic.specs.Calling.{Costs, HasClaim, HasRead, HasRoom, HasSeen, IsLooked}
+use Rattle.big_atomic.specs.Calls.{IsFirstUnlike, IsStored, IsSwapped, ScansForWant, register_at, store_reply, swap_reply}
+use Rattle.big_atomic.specs.Giving.{Agrees, AtTurn, Begun, Gives, HasClaimedNode, HasDecided, HasTold, OnlyLooked, Past}
 use Rattle.big_atomic.specs.Ready.{IsReady}
-use Rattle.big_atomic.specs.Turns.{exchanges, lost_steps}
+use Rattle.big_atomic.specs.Turns.{exchanges}
+use Rattle.big_atomic.specs.declared.answers.Stored.{Stored}
+use Rattle.big_atomic.specs.declared.answers.Stored.TheVariants.{Done as StoreDone, Full as StoreFull}
+use Rattle.big_atomic.specs.declared.answers.Swap.{Swap as Answer}
+use Rattle.big_atomic.specs.declared.answers.Swap.TheVariants.{No as SwapNo}
 use Rattle.hazard_claims.specs.Scanning.{IsScan}
 use Rattle.node_pool.specs.Pool.{load_steps}
+use Rattle.seat_history.proofs.Changed.{same_from_words}
+use Rattle.seat_history.specs.Change.{is_change}
+use Rattle.seat_history.specs.Contents.{Contents}
+use Rattle.seat_history.specs.History.{state_at}
+use Rattle.seat_history.specs.Step.{is_same}
 use Rattle.seat_history.specs.declared.call.Call.{Call}
+use Rattle.seat_history.specs.declared.call.Call.TheVariants.{Store, Swap}
 use Rattle.seat_history.specs.declared.entry.Entry.{Entry}
 use Rattle.seat_history.specs.declared.reply.Reply.{Reply}
-use Rattle.seat_history.specs.declared.reply.Reply.TheVariants.{Full}
+use Rattle.seat_history.specs.declared.reply.Reply.TheVariants.{Done, Full, No, Yes}
 use Rattle.seat_history.specs.declared.words.TheConstants.{WIDTH}
-use Rattle.step_rules.proofs.Ties.Notes.{only_stepped, only_stepped_then}
 use Rattle.step_rules.proofs.Numbers.Places.{at_there}
 use Rattle.step_rules.specs.Claims.{BACK, HOLD, OWN, On, WALK}
-use Rattle.step_rules.specs.History.{IsThere, cell_of}
-use Rattle.step_rules.specs.Kinds.Standing.{first_look}
-use Rattle.step_rules.specs.Lawful.{IsRight}
+use Rattle.step_rules.specs.Lawful.{IsRight, held_by, is_full}
+use Rattle.step_rules.specs.Records.{Edit, cost_of, gain_of}
 use Rattle.step_rules.specs.SeatData.{IsOf, IsSeat, ObjectData, SeatData}
-use Rattle.step_rules.specs.Sound.{Sound}
-use Rattle.step_rules.specs.Views.{claim_of, look_at, reading, silent}
+use Rattle.step_rules.specs.Views.{claim_of, look_at, number, reading, silent, stock}
 use Rattle.step_rules.specs.declared.layout.TheConstants.{NODE_WIDTH}
 use Rattle.step_rules.specs.declared.plan.Plan.{Plan}
 use Rattle.step_rules.specs.declared.view.Claim.{Claim}
 use Rattle.step_rules.specs.declared.view.Counted.{Counted}
 use Rattle.step_rules.specs.declared.view.View.{View}
 
--- THE RECORD WAS READ
-module _ {shared : ObjectData} {reg look : ℕ} {rec : List ℕ} {steps : List Counted} {before mid now : SeatData} (word : ℕ)
-    (o : HasOnlyLooked shared reg steps look before mid) (r : HasRead (word / 2) rec mid now) (sound : Sound now.view) where
-  abbrev loads : List Counted
-  loads = load_steps (word / 2) 0 r.words (length mid.view.seen)
+-- THE TWO CALLS
+pub store_gives : (reg : ℕ) (new : List ℕ) → length new ≡ WIDTH → Gives reg new Done (Store reg new)
+store_gives reg new wide = record {
+  on = λ p. refl;
+  inside = λ p inside. inside;
+  keeps = λ c held. refl;
+  edits = λ rs. refl;
+  changes = λ c. refl;
+  replies = λ c held changes. refl;
+  wide = wide;
+  long = wide;
+  removes = refl;
+  not_full = λ need free e. absurd cc;
+}
 
-  loads_quiet : AreStill loads
-  loads_quiet = loads_still (word / 2) 0 (length mid.view.seen) r.words
+pub store_agrees : (reg : ℕ) (rec new : List ℕ) → Agrees reg rec new Done (Store reg new)
+store_agrees reg rec new = record { changes = λ c is. ap (λ (l : List ℕ). not (is_same l new)) is; says = λ p n c log held is. refl }
 
-  abbrev pub read_steps : List Counted
-  read_steps = steps ++ loads
+pub swap_gives : (reg : ℕ) (old new : List ℕ) → length old ≡ WIDTH → length new ≡ WIDTH → Gives reg new Yes (Swap reg old new)
+swap_gives reg old new old_wide wide = record {
+  on = λ p. refl;
+  inside = λ p inside. inside;
+  keeps = λ c held. refl;
+  edits = λ rs. refl;
+  changes = λ c. refl;
+  replies = λ c held changes. ap (λ (b : Bool). cond b Yes No) (and_parts (is_same (c.registers reg) old) (not (is_same old new)) changes).0;
+  wide = (old_wide, wide);
+  long = wide;
+  removes = refl;
+  not_full = λ need free e. absurd cc;
+}
 
-  read_view : now.view ≡ record mid.view { trail = mid.view.trail ++ loads }
-  read_view = ap (λ (z : SeatData). z.view) r.read.same
+pub swap_agrees : (reg : ℕ) (rec old new : List ℕ) → rec ≡ old → Agrees reg rec new Yes (Swap reg old new)
+swap_agrees reg rec old new same = record {
+  changes = λ c is. ap (λ (b : Bool). b && not (is_same old new)) (same_from_words (c.registers reg) old (is ∙ same)) ∙ ap (λ (l : List ℕ). not (is_same l new)) (sym same);
+  says = λ p n c log held is. ap (λ (b : Bool). cond b Yes No) (same_from_words (c.registers reg) old (is ∙ same));
+}
 
-  pub only_read : HasOnlyLooked shared reg read_steps look before now
-  only_read = record {
-    calling = calling_then o.calling (read_goes reg (word / 2) r.words mid now r.read sound) (ap (λ (z : View). claim_of HOLD z) read_view);
-    began = o.began;
-    looks = looks_then steps loads o.looks (record { none_exchanged = still_exchanges loads loads_quiet; none_scanned = loads_unscanned (word / 2) 0 (length mid.view.seen) r.words });
-    same = only_stepped_then before mid now o.same (only_stepped mid now r.read.same);
-    retired = ap (λ (z : View). z.retired) read_view ∙ o.retired;
-    walk = ap (λ (z : View). (claim_of WALK z).word) read_view ∙ o.walk;
-    own = ap (λ (z : View). (claim_of OWN z).word) read_view ∙ o.own;
-  }
+-- a swap of a record for itself never changes anything
+pub swap_never : (reg : ℕ) (old new : List ℕ) → old ≡ new → (c : Contents) → is_change c (Swap reg old new) ≡ false
+swap_never reg old new same c = ap (λ (b : Bool). is_same (c.registers reg) old && not b) (same_from_words old new same) ∙ and_right (is_same (c.registers reg) old) false refl
 
-  -- it is the register's at the end of what is seen
-  pub read_there : HasClaim BACK reg word mid → register_at now.view (length now.view.seen) reg ≡ rec
-  read_there h = ap (λ (z : View). register_at z (length z.seen) reg) read_view ∙ (ap (λ (n : ℕ). register_at mid.view n reg) (sym h.now_at)
-      ∙ record_read BACK reg (word / 2) rec mid now (inl refl)
-      (subst (λ (p : Plan). reg < p.registers) (sym (ap (λ (z : View). z.plan) o.calling.goes.only ∙ o.began.ready.ours.plan)) o.began.there) o.calling.goes.sound h.stands h.cell r)
+-- no node is lost by them
+pub costs_none : {reg : ℕ} {new : List ℕ} {done : Reply} {call : Call} → Gives reg new done call → CostsNone call
+costs_none g rs = (ap (λ (e : Edit). cost_of (length rs) e) (g.edits rs), ap (λ (e : Edit). gain_of (length rs) e) (g.edits rs))
 
-  pub read_costs : On (claim_of BACK mid.view) (word / 2) → Costs 0 0 3 steps → Costs 0 0 (WIDTH + 4) read_steps
-  read_costs on costs =
-      let four = o.calling.goes.sound.claims.four in
-      let at = at_there mid.view.claims BACK (silent 0) (omega arith) in
-      let claimed = r.read.claimed BACK (claim_of BACK mid.view) at on in
-      let wide : length r.words ≡ NODE_WIDTH = ap length claimed ∙ (o.calling.goes.sound.claims.there BACK (word / 2) (claim_of BACK mid.view) at on).1 in
-      costs_then loads costs (still_lost loads loads_quiet) (still_exchanges loads loads_quiet) (omega (arith, loads_length (word / 2) 0 (length mid.view.seen) r.words))
-
--- THE CALL GOES ON
-pub changing_of : {shared : ObjectData} {reg look : ℕ} {steps : List Counted} {before now : SeatData} → HasOnlyLooked shared reg steps look before now → IsChanging shared reg steps look before now
-changing_of o = record { calling = o.calling; began = o.began; scans = inl o.looks.none_scanned; walk = o.walk }
-
-pub idle_still : {shared : ObjectData} {reg look : ℕ} {steps : List Counted} {before now : SeatData} → HasOnlyLooked shared reg steps look before now → now.holding ≡ []
-idle_still o = ap (λ (z : SeatData). z.holding) o.same ∙ o.began.ready.idle
-
--- room for one node more: what was found in the cell stays
-pub record RoomMade (shared : ObjectData) (reg : ℕ) (steps : List Counted) (look : ℕ) (before u w : SeatData) : Type 0 where
-  pub more : List Counted
-  pub changing : IsChanging shared reg (steps ++ more) look before w
-  pub none_lost : lost_steps more ≡ 0
-  pub none_tried : exchanges more ≡ 0
-  pub few : length more ≤ 4 * before.view.plan.seats + 1
-  pub idle : w.holding ≡ []
-  pub claims : (c : ℕ) → (c ≡ WALK → ⊥) → claim_of c w.view ≡ claim_of c u.view
-  pub seen : w.view.seen ≡ u.view.seen
-  pub looked : w.view.look ≡ u.view.look
-  pub noted : w.noted ≡ u.noted
-
-pub room_made : {shared : ObjectData} {reg look : ℕ} {room : Bool} {steps : List Counted} {before u w : SeatData} → HasOnlyLooked shared reg steps look before u
-    → HasRoom room u w → IsSeat u → IsSeat w → RoomMade shared reg steps look before u w
-room_made {shared} {reg} {look} {steps} {before} {u} {w} o r first last = ⊎_elim (λ had. free_already had.1) (λ made. scanned made.0 made.1) r.made
-  where
-    idle : u.holding ≡ []
-    idle = idle_still o
-
-    free_already : w ≡ u → RoomMade shared reg steps look before u w
-    free_already same = record {
-      more = [];
-      changing = subst (λ (z : List Counted × SeatData). IsChanging shared reg z.0 look before z.1) (λ i. (sym (append-nil steps) i, sym same i)) (changing_of o);
-      none_lost = refl;
-      none_tried = refl;
-      few = omega arith;
-      idle = ap (λ (z : SeatData). z.holding) same ∙ idle;
-      claims = λ c other. ap (λ (z : SeatData). claim_of c z.view) same;
-      seen = ap (λ (z : SeatData). z.view.seen) same;
-      looked = ap (λ (z : SeatData). z.view.look) same;
-      noted = ap (λ (z : SeatData). z.noted) same;
+module _ {shared : ObjectData} {reg : ℕ} {new : List ℕ} {done : Reply} {call : Call} where
+  module _ {b : Begun shared reg new done call} where
+    -- A CALL BEGAN WITH LOOKS
+    pub first_at : {word lost most : ℕ} {now : SeatData} (s : HasSeen BACK reg word b.before now) → s.look ≡ b.look → (b.once ≡ true → Costs lost (2 * lost) most s.steps) → IsSeat now → AtTurn b lost most now
+    first_at {now = now} s is spent law = record {
+      past = record {
+        steps = s.steps;
+        calling = record {
+          goes = s.goes None;
+          looked = subst (λ (n : ℕ). IsLooked reg s.steps n b.before now) is s.looked;
+          hold = s.stays.others HOLD (λ e. absurd (omega arith));
+        };
+        scans = inl s.looks.none_scanned;
+        walk = ap (λ (y : Claim). y.word) (s.stays.others WALK (λ e. absurd (omega arith))) ∙ b.began.ready.walk;
+        own = ap (λ (y : Claim). y.word) (s.stays.others OWN (λ e. absurd (omega arith))) ∙ b.began.ready.own;
+        idle = ap (λ (z : SeatData). z.holding) s.stays.same ∙ b.began.ready.idle;
+        law = law;
+        never = λ _. s.looks.none_exchanged;
+        spent = spent;
+      };
+      turn = inl (record { looks = s.looks; free = ap (λ (z : SeatData). z.free) s.stays.same; retired = s.stays.retired });
     }
 
-    scanned : u.free ≡ [] → IsScan u w → RoomMade shared reg steps look before u w
-    scanned none s =
-        let scan : List Counted = s.clear ++ s.loads in
-        let seats : u.view.plan.seats ≡ before.view.plan.seats = ap (λ (z : View). z.plan.seats) o.calling.goes.only in
-        let none_before = o.looks.none_scanned in
-        record {
-          more = scan;
-          changing = record {
-            calling = calling_then o.calling (scan_goes s first last reg) (s.claims HOLD (λ e. absurd (omega arith)));
-            began = o.began;
-            scans = inr (omega (arith, scan_loads-append steps scan, scan_all s first last), omega (arith, ap (λ (z : SeatData). length z.free) o.same, ap (length {A = ℕ}) none));
-            walk = s.walk_none;
-          };
-          none_lost = scan_lost s first last;
-          none_tried = scan_tried s first last;
-          few = omega (arith, scan_few s first last);
-          idle = ap (λ (z : SeatData). z.holding) s.same ∙ idle;
-          claims = s.claims;
-          seen = scan_seen s first last;
-          looked = ap (λ (z : View). z.look) (scan_view s first last);
-          noted = ap (λ (z : SeatData). z.noted) s.same;
-        }
+    pub there_now : {lost most : ℕ} {now : SeatData} → Past b lost most now → reg < now.view.plan.registers
+    there_now p = subst (λ (q : Plan). reg < q.registers) (sym (ap (λ (z : View). z.plan) p.calling.goes.only ∙ b.began.ready.ours.plan)) b.began.there
 
--- the seat stays of its object
-pub room_ours : {shared : ObjectData} {room : Bool} {u w : SeatData} → IsOf shared u → HasRoom room u w → IsOf shared w
-room_ours {shared} of r = ⊎_elim
-    (λ had. subst (λ (z : SeatData). IsOf shared z) (sym had.1) of)
-    (λ made. record { object = ap (λ (z : SeatData). z.object) made.1.same ∙ of.object; plan = ap (λ (z : SeatData). z.view.plan) made.1.same ∙ of.plan })
-    r.made
+    pub past_ours : {lost most : ℕ} {now : SeatData} → Past b lost most now → IsOf shared now
+    past_ours p = record { object = p.calling.goes.object ∙ b.began.ready.ours.object; plan = ap (λ (z : View). z.plan) p.calling.goes.only ∙ b.began.ready.ours.plan }
 
--- the claim and the record found stay
-pub room_claim : {shared : ObjectData} {reg word look : ℕ} {steps : List Counted} {before u w : SeatData} → RoomMade shared reg steps look before u w
-    → HasClaim BACK reg word u → HasClaim BACK reg word w
-room_claim {reg} {word} {u} {w} m h =
-    let same : claim_of BACK w.view ≡ claim_of BACK u.view = m.claims BACK (λ e. absurd (omega arith)) in record {
-      stands = subst (λ (y : Claim). On y (word / 2)) (sym same) h.stands;
-      cell = ap (λ (y : Claim). y.cell) same ∙ h.cell;
-      now_at = ap (λ (y : Claim). y.at) same ∙ (h.now_at ∙ ap (length {A = Entry}) (sym m.seen));
-      found = m.looked ∙ (h.found ∙ ap (λ (s : List Entry). Some (look_at reg word (length s))) (sym m.seen));
-      none = λ is. m.noted ∙ h.none is;
+    abbrev pub past_within : {lost lost' most most' : ℕ} {now : SeatData} → Past b lost most now → lost ≤ lost' → most ≤ most' → Past b lost' most' now
+    past_within p low few = record {
+      steps = p.steps;
+      calling = p.calling;
+      scans = p.scans;
+      walk = p.walk;
+      own = p.own;
+      idle = p.idle;
+      law = p.law;
+      never = p.never;
+      spent = λ once. costs_within (p.spent once) low (omega arith) few;
     }
 
--- AN ANSWER THAT CHANGES NOTHING
-pub looked_end : {shared : ObjectData} {reg look : ℕ} {steps : List Counted} {before now : SeatData} (call : Call) (reply : Reply) → HasOnlyLooked shared reg steps look before now
-    → ((p : Plan) → reg < p.registers → IsThere p call) → ((p : Plan) → cell_of p call ≡ reg)
-    → IsRight now.view.plan now.view.seen now.view.stands (reading (length now.view.seen) call reply now.view)
-    → ((need free : ℕ) → reply ≡ Full need free → ⊥) → MayEnd reg look (length now.view.seen) call reply steps before now
-looked_end {now} call reply o there on right full = changing_end (length now.view.seen) call reply (changing_of o) (idle_still o) there on o.calling.looked.upto right full
+    -- THE RECORD WAS READ
+    module _ {word : ℕ} {rec : List ℕ} {mid now : SeatData} (h : HasClaimedNode b word mid) (r : HasRead (word / 2) rec mid now) (law : IsSeat now) where
+      abbrev p : Past b 0 3 mid
+      p = h.at.past
 
--- a call that only looked, and read the record that its claim stands on
-pub record Decides (shared : ObjectData) (reg word look : ℕ) (rec : List ℕ) (steps : List Counted) (before now : SeatData) : Type 0 where
-  pub only : HasOnlyLooked shared reg steps look before now
+      abbrev loads : List Counted
+      loads = load_steps (word / 2) 0 r.words (length mid.view.seen)
+
+      read_view : now.view ≡ record mid.view { trail = mid.view.trail ++ loads }
+      read_view = ap (λ (z : SeatData). z.view) r.read.same
+
+      -- it is as wide as a node
+      wide : length r.words ≡ NODE_WIDTH
+      wide =
+          let four = p.law.sound.claims.four in
+          let at = at_there mid.view.claims BACK (silent 0) (omega arith) in
+          ap length (r.read.claimed BACK (claim_of BACK mid.view) at h.claim.stands) ∙ (p.law.sound.claims.there BACK (word / 2) (claim_of BACK mid.view) at h.claim.stands).1
+
+      tried : exchanges (p.steps ++ loads) ≡ exchanges p.steps
+      tried = let none = still_exchanges loads (loads_still (word / 2) 0 (length mid.view.seen) r.words) in omega (arith, exchanges-append p.steps loads)
+
+      abbrev read_past : Past b 0 (WIDTH + 4) now
+      read_past = record {
+        steps = p.steps ++ loads;
+        calling = calling_then p.calling (read_goes reg (word / 2) r.words mid now r.read law.sound) (ap (λ (z : View). claim_of HOLD z) read_view);
+        scans =
+            let none = loads_unscanned (word / 2) 0 (length mid.view.seen) r.words in
+            ⊎_elim (λ e. inl (omega (arith, scan_loads-append p.steps loads))) (λ e. let all = e.0 in inr (omega (arith, scan_loads-append p.steps loads), e.1)) p.scans;
+        walk = ap (λ (z : View). (claim_of WALK z).word) read_view ∙ p.walk;
+        own = ap (λ (z : View). (claim_of OWN z).word) read_view ∙ p.own;
+        idle = ap (λ (z : SeatData). z.holding) r.read.same ∙ p.idle;
+        law = law;
+        never = λ never. tried ∙ p.never never;
+        spent = λ once.
+            let still = loads_still (word / 2) 0 (length mid.view.seen) r.words in
+            costs_then loads (p.spent once) (still_lost loads still) (still_exchanges loads still) (omega (arith, wide, loads_length (word / 2) 0 (length mid.view.seen) r.words));
+      }
+
+      pub read_at : AtTurn b 0 (WIDTH + 4) now
+      read_at = record {
+        past = read_past;
+        turn = ⊎_elim
+            (λ o. inl (record {
+              looks = looks_then p.steps loads o.looks (record {
+                none_exchanged = still_exchanges loads (loads_still (word / 2) 0 (length mid.view.seen) r.words);
+                none_scanned = loads_unscanned (word / 2) 0 (length mid.view.seen) r.words;
+              });
+              free = ap (λ (z : SeatData). z.free) r.read.same ∙ o.free;
+              retired = ap (λ (z : View). z.retired) read_view ∙ o.retired;
+            }))
+            (λ t. let some = t.0 in let free = t.1 in inr (omega (arith, tried), omega (arith, ap (λ (z : SeatData). length z.free) r.read.same)))
+            h.at.turn;
+      }
+
+      pub read_claim : HasClaim BACK reg word now
+      read_claim = claim_stays r.read h.claim
+
+      -- it is the register's at the end of what is seen
+      pub read_there : register_at now.view (length now.view.seen) reg ≡ rec
+      read_there = ap (λ (z : View). register_at z (length z.seen) reg) read_view ∙ (ap (λ (n : ℕ). register_at mid.view n reg) (sym h.claim.now_at)
+          ∙ record_read BACK reg (word / 2) rec mid now (inl refl) (there_now p) p.law.sound h.claim.stands h.claim.cell r)
+
+      pub decided : Agrees reg rec new done call → HasDecided b word rec now
+      decided agrees = record { at = read_at; claim = read_claim; there = read_there; agrees = agrees }
+
+    -- AN ANSWER
+    module _ {lost most : ℕ} {now : SeatData} (t : AtTurn b lost most now) where
+      pub tells : (q : ℕ) (reply : Reply) → b.look ≤ q → IsRight now.view.plan now.view.seen now.view.stands (reading q call reply now.view)
+          → ((need free : ℕ) → reply ≡ Full need free → ⊥) → MayEnd reg b.look q call reply t.past.steps b.before now
+      tells q reply late right full = record {
+        goes = t.past.calling.goes;
+        looked = t.past.calling.looked;
+        first = b.began.ready.law;
+        there = b.gives.inside now.view.plan (there_now t.past);
+        on = b.gives.on now.view.plan;
+        late = late;
+        right = right;
+        idle = b.began.ready.idle;
+        idle_now = t.past.idle;
+        full = λ need free e. absurd (full need free e);
+      }
+
+      pub told : {q : ℕ} {reply : Reply} {final : SeatData} → MayEnd reg b.look q call reply t.past.steps b.before now → ((need free : ℕ) → reply ≡ Full need free → ⊥)
+          → EndsAs q call reply now final → IsSeat final → lost ≤ 1 → most < 3 * NODE_WIDTH + 4 * b.before.view.plan.seats + 16
+          → (h : HasTold b reply final) × (h.answered.stand ≡ reading q call reply now.view)
+      told {reply = reply} m full is law once few =
+          let p = t.past in
+          let e = ended_as b.began m is law p.calling.hold p.walk p.own b.gives.keeps in
+          let a = e.has in
+          let clear : List Counted = clear_step now ∷ [] in (
+            record {
+              answered = a.answered;
+              look_is = a.look_is;
+              hold = e.hold;
+              ready = e.ready;
+              scans = subst (λ (l : List Counted). ScansForWant 1 reply l b.before) (sym a.steps_are) (⊎_elim
+                  (λ o. let none = o.looks.none_scanned in inl (omega (arith, scan_loads-append p.steps clear)))
+                  (λ s.
+                  let some = s.0 in ⊎_elim
+                  (λ e. inl (omega (arith, scan_loads-append p.steps clear)))
+                  (λ e. let all = e.0 in inr (omega (arith, scan_loads-append p.steps clear), e.1, inr (omega (arith, exchanges-append p.steps clear)))) p.scans)
+                  t.turn);
+              full = λ need free e. absurd (full need free e);
+              never = λ never. ap exchanges a.steps_are ∙ (let none = p.never never in omega (arith, exchanges-append p.steps clear));
+              spent = λ tries. subst (λ (l : List Counted). Costs 1 2 (3 * NODE_WIDTH + 4 * b.before.view.plan.seats + 16) l) (sym a.steps_are)
+                  (costs_then clear (costs_within (p.spent tries) once (omega arith) (let q : most ≤ most = omega arith in q)) refl refl (omega arith));
+            },
+            a.stand_is,
+          )
+
+    -- the record is there already
+    module _ {word : ℕ} {rec : List ℕ} {now : SeatData} (d : HasDecided b word rec now) (same : is_same rec new ≡ true) where
+      pub end_there : MayEnd reg b.look (length now.view.seen) call done d.at.past.steps b.before now
+      end_there =
+          let none : is_change (state_at now.view.seen (length now.view.seen)) call ≡ false = d.agrees.changes (state_at now.view.seen (length now.view.seen)) d.there ∙ ap not same in
+          tells d.at (length now.view.seen) done d.at.past.calling.looked.upto
+          (right_at now.view (length now.view.seen) call done (omega arith) (d.agrees.says now.view.plan (stock now.view) (state_at now.view.seen (length now.view.seen)) (take (length now.view.seen) now.view.seen)
+          (held_by now.view.seen (number now.view) now.view.stands) d.there)
+          (sym (ap (λ (c : Bool). c && not (is_full done)) none)))
+          b.gives.not_full
+
+      pub told_there : {final : SeatData} → EndsAs (length now.view.seen) call done now final → IsSeat final → HasTold b done final
+      told_there is law = (told d.at end_there b.gives.not_full is law (omega arith) (omega arith)).0
+
+-- ROOM FOR ONE NODE: what was found in the register stays
+pub record HasRoomFor {shared : ObjectData} {reg : ℕ} {new : List ℕ} {done : Reply} {call : Call} (b : Begun shared reg new done call) (word seen : ℕ) (now : SeatData) : Type 0 where
+  pub past : Past b 0 (WIDTH + 5 + 4 * b.before.view.plan.seats) now
   pub claim : HasClaim BACK reg word now
-  pub there : register_at now.view (length now.view.seen) reg ≡ rec
-  pub law : IsSeat now
+  pub seen_is : length now.view.seen ≡ seen
+  pub changes : is_change (state_at now.view.seen (length now.view.seen)) call ≡ true
+  pub free : 0 < length now.free
 
-pub decides : {shared : ObjectData} {reg word look : ℕ} {rec : List ℕ} {steps : List Counted} {before mid now : SeatData} (o : HasOnlyLooked shared reg steps look before mid)
-    → HasClaim BACK reg word mid → (r : HasRead (word / 2) rec mid now) → (law : IsSeat now)
-    → Decides shared reg word look rec (read_steps word o r law.sound) before now
-decides {word} o claim r law = record {
-  only = only_read word o r law.sound;
-  claim = claim_stays r.read claim;
-  there = read_there word o r law.sound claim;
-  law = law;
-}
+module _ {shared : ObjectData} {reg : ℕ} {new : List ℕ} {done : Reply} {call : Call} {b : Begun shared reg new done call} {word : ℕ} {rec : List ℕ} {u : SeatData} (d : HasDecided b word rec u) where
+  -- where none was, this is the call's first turn
+  pub turn_first : u.free ≡ [] → OnlyLooked d.at.past.steps b.before u
+  turn_first none = ⊎_elim (λ o. o) (λ t. absurd (let free = t.1 in omega (arith, ap (length {A = ℕ}) none))) d.at.turn
 
--- A CALL BEGAN WITH LOOKS
-pub begins : {shared : ObjectData} {reg : ℕ} {seat : SeatData} → IsReady shared seat → reg < shared.plan.registers → 0 < seat.view.changes → Began shared reg seat
-begins ready there left = record { ready = ready; there = there; left = left }
+  -- it would change the register
+  pub changes_now : is_same rec new ≡ false → is_change (state_at u.view.seen (length u.view.seen)) call ≡ true
+  changes_now other = d.agrees.changes (state_at u.view.seen (length u.view.seen)) d.there ∙ ap not other
 
-pub seen_only : {shared : ObjectData} {reg word : ℕ} {before now : SeatData} → Began shared reg before → (s : HasSeen BACK reg word before now) → HasOnlyLooked shared reg s.steps s.look before now
-seen_only began s = record {
-  calling = record { goes = s.goes None; looked = s.looked; hold = s.stays.others HOLD (λ e. absurd (omega arith)) };
-  began = began;
-  looks = s.looks;
-  same = s.stays.same;
-  retired = s.stays.retired;
-  walk = ap (λ (y : Claim). y.word) (s.stays.others WALK (λ e. absurd (omega arith))) ∙ began.ready.walk;
-  own = ap (λ (y : Claim). y.word) (s.stays.others OWN (λ e. absurd (omega arith))) ∙ began.ready.own;
-}
+  -- a node was free already
+  room_there : is_same rec new ≡ false → 0 < length u.free → HasRoomFor b word (length u.view.seen) u
+  room_there other free =
+      record {
+        past = past_within d.at.past (omega arith) (omega arith);
+        claim = d.claim;
+        seen_is = refl;
+        changes = changes_now other;
+        free = free;
+      }
 
--- the first look of three steps is where a trail that ends with them had it
-pub looked_back : {reg look : ℕ} {steps : List Counted} {before now : SeatData} → Goes reg None steps before now → length steps ≡ 3 → first_look reg steps ≡ Some look → tried_at reg now.view ≡ look
-looked_back {reg} {steps} {before} {now} g three looked =
-    let at : length now.view.trail - 3 ≡ length before.view.trail = omega (arith, ap length g.trail, length-append before.view.trail steps) in
-    let last : drop (length now.view.trail - 3) now.view.trail ≡ steps = (λ i. drop (at i) (g.trail i)) ∙ drop-append_seam before.view.trail steps in
-    ap (λ (l : List Counted). unwrap_or (first_look reg l) 0) last ∙ ap (λ (x : Option ℕ). unwrap_or x 0) looked
+  -- a scan freed one
+  room_scanned : {w : SeatData} → is_same rec new ≡ false → u.free ≡ [] → IsScan u w → IsSeat w → 0 < length w.free → HasRoomFor b word (length u.view.seen) w
+  room_scanned {w} other none s law free =
+      let o = turn_first none in
+      let p = d.at.past in
+      let scan : List Counted = s.clear ++ s.loads in
+      let seats : u.view.plan.seats ≡ b.before.view.plan.seats = ap (λ (z : View). z.plan.seats) p.calling.goes.only in
+      let none_before = o.looks.none_scanned in
+      let same : claim_of BACK w.view ≡ claim_of BACK u.view = s.claims BACK (λ e. absurd (omega arith)) in
+      let seen : w.view.seen ≡ u.view.seen = scan_seen s p.law law in
+      record {
+        past = record {
+          steps = p.steps ++ scan;
+          calling = calling_then p.calling (scan_goes s p.law law reg) (s.claims HOLD (λ e. absurd (omega arith)));
+          scans = inr (omega (arith, scan_loads-append p.steps scan, scan_all s p.law law), omega (arith, ap (length {A = ℕ}) o.free, ap (length {A = ℕ}) none));
+          walk = s.walk_none;
+          own = ap (λ (y : Claim). y.word) (s.claims OWN (λ e. absurd (omega arith))) ∙ p.own;
+          idle = ap (λ (z : SeatData). z.holding) s.same ∙ p.idle;
+          law = law;
+          never = λ never. let none_tried = p.never never in omega (arith, exchanges-append p.steps scan, scan_tried s p.law law);
+          spent = λ once. costs_then scan (p.spent once) (scan_lost s p.law law) (scan_tried s p.law law) (omega (arith, scan_few s p.law law));
+        };
+        claim = record {
+          stands = subst (λ (y : Claim). On y (word / 2)) (sym same) d.claim.stands;
+          cell = ap (λ (y : Claim). y.cell) same ∙ d.claim.cell;
+          now_at = ap (λ (y : Claim). y.at) same ∙ (d.claim.now_at ∙ ap (length {A = Entry}) (sym seen));
+          found = ap (λ (z : View). z.look) (scan_view s p.law law) ∙ (d.claim.found ∙ ap (λ (l : List Entry). Some (look_at reg word (length l))) (sym seen));
+          none = λ is. ap (λ (z : SeatData). z.noted) s.same ∙ d.claim.none is;
+        };
+        seen_is = ap (length {A = Entry}) seen;
+        changes = ap (λ (l : List Entry). is_change (state_at l (length l)) call) seen ∙ changes_now other;
+        free = free;
+      }
+
+  pub room_for : {w : SeatData} → is_same rec new ≡ false → HasRoom true u w → IsSeat w → HasRoomFor b word (length u.view.seen) w
+  room_for other r law = ⊎_elim
+      (λ had. subst (λ (z : SeatData). HasRoomFor b word (length u.view.seen) z) (sym had.1) (room_there other had.0))
+      (λ made. room_scanned other made.0 made.1 law (r.some_free refl))
+      r.made
+
+-- WHAT THE CALLS PROMISE of their answers
+pub stored : {shared : ObjectData} {reg : ℕ} {new : List ℕ} {b : Begun shared reg new Done (Store reg new)} {after : SeatData} (answer : Stored) → HasTold b (store_reply answer) after
+    → IsStored reg new answer b.before after × IsReady shared after
+stored {b} {after} answer t = (
+  record {
+    answered = t.answered;
+    nodes = nodes_stay (costs_none b.gives) t.answered;
+    hold = t.hold;
+    scans = t.scans;
+    full = λ need free e. (t.full need free (ap store_reply e)).0;
+    enough = enough answer t;
+  },
+  t.ready,
+)
+  where
+    enough : (a : Stored) → HasTold b (store_reply a) after → 4 * b.before.view.plan.seats < stock b.before.view → a ≡ StoreDone
+    enough StoreDone h many = refl
+    enough (StoreFull need free) h many = absurd (let few = (h.full need free refl).1 in omega arith)
+
+pub swapped : {shared : ObjectData} {reg : ℕ} {old new : List ℕ} {b : Begun shared reg new Yes (Swap reg old new)} {after : SeatData} (answer : Answer) (t : HasTold b (swap_reply answer) after)
+    → b.once ≡ true → (answer ≡ SwapNo → IsFirstUnlike reg old t.answered.stood.look t.answered.stand.place after.view)
+    → IsSwapped reg old new answer b.before after × IsReady shared after
+swapped {reg = reg} {old = old} {new = new} {b = b} answer t once unlike =
+    let spent = t.spent once in (
+      record {
+        answered = t.answered;
+        nodes = nodes_stay (costs_none b.gives) t.answered;
+        hold = t.hold;
+        scans = t.scans;
+        no = unlike;
+        full = λ need free e. (t.full need free (ap swap_reply e)).0;
+        enough = λ many need free e. absurd (let few = (t.full need free (ap swap_reply e)).1 in omega arith);
+        one_lost = spent.lost_most;
+        twice = spent.tried_most;
+        same = λ e. t.never (swap_never reg old new e);
+        bound = spent.most;
+      },
+      t.ready,
+    )

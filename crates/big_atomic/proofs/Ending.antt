@@ -9,10 +9,9 @@ use Rattle.big_atomic.specs.Turns.{scan_loads}
 use Rattle.hazard_claims.specs.Claiming.{IsReleased, claim_number}
 use Rattle.hazard_claims.specs.Scanning.{ClearsWalk}
 use Rattle.hazard_claims.specs.declared.claims.Claim.{Claim as Which}
-use Rattle.hazard_claims.specs.declared.claims.Claim.TheVariants.{Back, Own, Walk}
-use Rattle.step_rules.specs.Claims.{BACK, HOLD, On, OWN, WALK}
+use Rattle.hazard_claims.specs.declared.claims.Claim.TheVariants.{Walk}
+use Rattle.step_rules.specs.Claims.{HOLD, On, WALK}
 use Rattle.step_rules.specs.SeatData.{IsOf, ObjectData, SeatData}
-use Rattle.step_rules.specs.Steps.{stepped, unnoted}
 use Rattle.step_rules.specs.Views.{claim_of, cleared_view, counted, silent}
 use Rattle.step_rules.specs.declared.view.Claim.{Claim}
 use Rattle.step_rules.specs.declared.view.Counted.{Counted}
@@ -95,32 +94,6 @@ ends_then {a} {b} {u} {v} {w} p q =
       none_scanned = omega (arith, scan_loads-append a b);
       hold = q.hold ∙ p.hold;
     }
-
--- Own and then Back
-abbrev pub EndsClaims : SeatData → SeatData → Type 0
-EndsClaims after final = final ≡ stepped (cleared_view BACK (cleared_view OWN after.view)) (unnoted BACK after)
-
-abbrev pub both_steps : SeatData → List Counted
-both_steps after = clearing OWN after ++ clearing BACK after
-
-module _ (after final : SeatData) (is : EndsClaims after final) where
-  abbrev between : SeatData
-  between = stepped (cleared_view OWN after.view) after
-
-  own_ended : IsReleased Own after between
-  own_ended = refl
-
-  pub ends_both : EndsBy (both_steps after) after final
-  ends_both = ends_then (ends_one Own after between (λ e. absurd (omega arith)) own_ended) (ends_one Back between final (λ e. absurd (omega arith)) is)
-
-  pub both_back : (claim_of BACK final.view).word ≡ 0
-  both_back = released_word Back between final is
-
-  pub both_own : (claim_of OWN final.view).word ≡ 0
-  both_own = ap (λ (y : Claim). y.word) (released_else Back between final OWN is (λ e. absurd (omega arith))) ∙ released_word Own after between own_ended
-
-  pub both_walk : claim_of WALK final.view ≡ claim_of WALK after.view
-  both_walk = released_else Back between final WALK is (λ e. absurd (omega arith)) ∙ released_else Own after between WALK own_ended (λ e. absurd (omega arith))
 
 -- Walk, where its word isn't 0
 pub record EndsWalk (u w : SeatData) : Type 0 where

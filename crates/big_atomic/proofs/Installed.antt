@@ -1,13 +1,13 @@
 -- What an install leaves, and how its call is answered.
-use Rattle.std.proofs.Common.{◌≡◌, ◌≢◌, ◌∙◌, ℕ, ◌+◌, ◌<◌, ◌≤◌, true, List, [], ◌∷◌, ◌++◌, Option, Some, length, take, drop, refl, sym, ap, subst, arith}
+use Rattle.std.proofs.Common.{◌≡◌, ◌≢◌, ◌∙◌, ℕ, ◌+◌, ◌<◌, ◌≤◌, true, List, [], ◌∷◌, ◌++◌, Option, Some, length, take, drop, length-append, refl, sym, ap, subst, arith}
 use Rattle.std.proofs.lemmas.List.{get_or-set_other}
 use Rattle.big_atomic.proofs.Answered.{goes_of}
 use Rattle.big_atomic.proofs.Claimed.{lost_longer}
 use Rattle.big_atomic.proofs.Ending.{EndsBy, EndsWalk, clearing, cleared_word, ends_one, ends_then, ends_walk, released_else, released_word}
 use Rattle.big_atomic.proofs.Goings.{calling_then, goes_still, goes_then}
-use Rattle.big_atomic.proofs.Paid.{exchanges-append, lost-append, scan_loads-append}
-use Rattle.big_atomic.proofs.Winning.{WonCall, all_steps, stand, won_lost, won_ready, won_records, won_scanned, won_tried}
-use Rattle.big_atomic.specs.Calling.{Calling, Goes, HasLost, OnlySteps}
+use Rattle.big_atomic.proofs.Paid.{costs_then, costs_within, exchanges-append, lost-append, scan_loads-append}
+use Rattle.big_atomic.proofs.Winning.{WonCall, all_steps, exchanges_most, stand, won_costs, won_ready, won_records, won_scanned, won_tried}
+use Rattle.big_atomic.specs.Calling.{Calling, Costs, Goes, HasLost, OnlySteps}
 use Rattle.big_atomic.specs.Installing.{Exchanged, HasInstalled, HasMoved, HasNear, MayInstall}
 use Rattle.big_atomic.specs.Ready.{IsReady}
 use Rattle.big_atomic.specs.Turns.{exchanges, lost_steps, scan_loads}
@@ -20,11 +20,12 @@ use Rattle.node_pool.specs.Pool.{IsAllPutBack}
 use Rattle.seat_history.specs.Contents.{Contents}
 use Rattle.seat_history.specs.Step.{held_after}
 use Rattle.seat_history.specs.declared.call.Call.{Call}
+use Rattle.seat_history.specs.declared.entry.Entry.{Entry}
 use Rattle.step_rules.proofs.World.Chains.{head_has}
 use Rattle.step_rules.proofs.Order.Fronts.{followed_link, length-followed, need_some}
 use Rattle.step_rules.specs.Bags.{times}
 use Rattle.step_rules.specs.Claims.{BACK, HOLD, OWN, On, WALK}
-use Rattle.step_rules.specs.History.{cell_of}
+use Rattle.step_rules.specs.History.{NoneOn, cell_of}
 use Rattle.step_rules.specs.Kinds.Backup.{MayExchange}
 use Rattle.step_rules.specs.Records.{dropped_count, edit_of, need, records_at, records_of}
 use Rattle.step_rules.specs.SeatData.{IsOf, IsSeat, ObjectData, SeatData}
@@ -32,6 +33,7 @@ use Rattle.step_rules.specs.Sound.{Sound}
 use Rattle.step_rules.specs.Steps.{DropsNoted, HoldsFront, MayClaim}
 use Rattle.step_rules.specs.Views.{announced, announced_view, claim_of, claimed_edit, claimed_pages, claimed_records, cleared_view, counted, followed, fresh_of, silent, stock}
 use Rattle.step_rules.specs.World.{has, nodes_of}
+use Rattle.step_rules.specs.declared.plan.Plan.{Plan}
 use Rattle.step_rules.specs.declared.view.Claim.{Claim}
 use Rattle.step_rules.specs.declared.view.Counted.{Counted}
 use Rattle.step_rules.specs.declared.view.Held.{Held}
@@ -128,6 +130,9 @@ pub record LostInstall (cell : ℕ) (before after : SeatData) : Type 0 where
   pub one_lost : lost_steps steps ≤ 1
   pub some_tried : 0 < exchanges steps
   pub none_scanned : scan_loads steps ≡ 0
+  pub twice : exchanges steps ≤ 2
+  pub few : length steps ≤ 4
+  pub changed : ¬ NoneOn after.view.plan cell (drop (length before.view.seen) after.view.seen)
   pub longer : length before.view.seen < length after.view.seen
   pub retired : after.view.retired ≡ before.view.retired
   pub own : after.view.own ≡ before.view.own
@@ -169,6 +174,10 @@ module _ {cell seen node word : ℕ} {before after : SeatData} (m : HasMoved cel
         one_lost = omega (arith, lost-append first (m.lost.tries ++ cleared), lost-append m.lost.tries cleared);
         some_tried = omega (arith, exchanges-append first (m.lost.tries ++ cleared), exchanges-append m.lost.tries cleared);
         none_scanned = omega (arith, scan_loads-append first (m.lost.tries ++ cleared), scan_loads-append m.lost.tries cleared);
+        twice = let few = m.lost.few in omega (arith, exchanges_most m.lost.tries, exchanges-append first (m.lost.tries ++ cleared), exchanges-append m.lost.tries cleared);
+        few = let few = m.lost.few in omega (arith, length-append first (m.lost.tries ++ cleared), length-append m.lost.tries cleared);
+        changed = subst (λ (z : Plan × ℕ × List Entry). ¬ NoneOn z.0 cell (drop z.1 z.2))
+            (λ i. (ap (λ (z : View). z.plan) (sym after_view) i, ap (λ (z : View). length z.seen) view i, ap (λ (z : View). z.seen) (sym after_view) i)) m.lost.changed;
         longer = omega (arith, ap (λ (z : View). length z.seen) view, ap (λ (z : View). length z.seen) after_view);
         retired = ap (λ (z : View). z.retired) after_view ∙ (ap (λ (z : View). z.retired) m.lost.view ∙ ap (λ (z : View). z.retired) view);
         own = ap (λ (z : View). z.own) after_view ∙ (ap (λ (z : View). z.own) m.lost.view ∙ ap (λ (z : View). z.own) view);
@@ -238,8 +247,12 @@ module _ {shared : ObjectData} {cell seen node : ℕ} {call : Call} {steps : Lis
   pub change_tried : 0 < exchanges (all_steps won_change)
   change_tried = won_tried won_change
 
-  pub change_lost : lost_steps (all_steps won_change) ≡ lost_steps steps
-  change_lost = won_lost won_change ∙ omega (arith, lost-append steps (announce_step node now h.announced h.announces))
+  pub change_costs : {most : ℕ} → Costs 0 0 most steps → Costs 0 2 (most + 6) (all_steps won_change)
+  change_costs {most} costs =
+      let first : List Counted = announce_step node now h.announced h.announces in
+      let walk = walk_ends.few in
+      costs_within (won_costs won_change (costs_then {most = most + 1} first costs refl refl (omega arith))) (omega arith) (omega arith)
+      (omega (arith, length-append (clearing OWN h.exchanged) (walk_ends.clears ++ clearing BACK walked), length-append walk_ends.clears (clearing BACK walked)))
 
   -- the cell had the claimed records at its place
   pub change_records : {n : ℕ} → On (claim_of BACK now.view) n → (claim_of BACK now.view).cell ≡ cell

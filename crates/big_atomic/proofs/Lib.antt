@@ -1,6 +1,7 @@
 pub mod Adding
 pub mod Answered
 pub mod Balance
+pub mod Beginning
 pub mod Claimed
 pub mod Counting
 pub mod CountingUp
@@ -18,14 +19,10 @@ pub mod Paid
 pub mod Preparing
 pub mod Reading
 pub mod Refusing
+pub mod Renewing
 pub mod Scanning
 pub mod SeatNumbers
 pub mod Sharing
 pub mod Shortage
-pub mod StoreEnds
-pub mod Storing
-pub mod SwapEnds
-pub mod Swapping
-pub mod Trying
 pub mod Unlike
 pub mod Winning

@@ -12,7 +12,7 @@ use Rattle.big_atomic.proofs.Ending.{EndsBy}
 use Rattle.big_atomic.proofs.Goings.{calling_then, drop_parts, held_stays, looked_more}
 use Rattle.big_atomic.proofs.Paid.{changes-append, exchanges-append, lost-append, scan_loads-append, paid_kept, paid_more, paid_still, paid_then, saw_within, still_exchanges, still_lost}
 use Rattle.big_atomic.specs.Calling.{Calling, HasWon, Costs}
-use Rattle.big_atomic.specs.Calls.{Answered, HoldStays}
+use Rattle.big_atomic.specs.Calls.{HoldStays}
 use Rattle.big_atomic.specs.Ready.{IsReady}
 use Rattle.big_atomic.specs.Turns.{TurnsArePaid, changes_on, exchanges, is_exchange, is_lost, lost_steps, scan_loads}
 use Rattle.seat_history.proofs.Histories.{state_at-append}
@@ -250,9 +250,6 @@ module _ {k word node : ℕ} {call : Call} {steps clears : List Counted} {look :
     look_is = refl;
   }
 
-  pub answered_won : {told : Reply} → stand.reply ≡ told → (a : Answered k call told before final) × (a.steps ≡ all_steps)
-  answered_won reply = let h = has_won reply in (h.answered, h.steps_are)
-
   pub won_stays : HoldStays before final
   won_stays = record { claim = w.ended.hold ∙ (won_claims HOLD ∙ w.calling.hold); held = won_held }
 
@@ -269,11 +266,6 @@ module _ {k word node : ℕ} {call : Call} {steps clears : List Counted} {look :
   won_scanned =
       let none = w.won.retried.none_scanned in
       let after = w.ended.none_scanned in omega (arith, scan_loads-append (steps ++ w.won.tries) tail, scan_loads-append steps w.won.tries)
-
-  pub won_lost : lost_steps all_steps ≡ lost_steps steps
-  won_lost =
-      let none = w.won.retried.none_lost in
-      let kept = tail_kept in omega (arith, lost-append (steps ++ w.won.tries) tail, lost-append steps w.won.tries)
 
   pub won_tried : 0 < exchanges all_steps
   won_tried = omega (arith, exchanges-append (steps ++ w.won.tries) tail)

@@ -1,10 +1,8 @@
 -- What a call knows between its steps.
-use Rattle.std.specs.Prelude.{◌≡◌, ◌≢◌, ℕ, ◌+◌, ◌*◌, ◌-◌, ◌/◌, ◌<◌, ◌≤◌, Bool, true, false, suc, zero, List, [], ◌∷◌, ◌++◌, Option, Some, None, ◌⊎◌, length, take, drop, unwrap_or, if◌then◌else◌}
-use Rattle.big_atomic.specs.Calls.{IsStored, IsSwapped, register_at}
+use Rattle.std.specs.Prelude.{◌≡◌, ◌≢◌, ℕ, ◌+◌, ◌-◌, ◌/◌, ◌<◌, ◌≤◌, Bool, true, false, suc, zero, List, [], ◌∷◌, ◌++◌, Option, Some, None, ◌⊎◌, length, take, drop, unwrap_or, if◌then◌else◌}
+use Rattle.big_atomic.specs.Calls.{register_at}
 use Rattle.big_atomic.specs.Ready.{IsReady}
 use Rattle.big_atomic.specs.Turns.{TurnsArePaid, changes_on, exchanges, last_look, lost_steps, scan_loads}
-use Rattle.big_atomic.specs.declared.answers.Stored.TheVariants.{Done as StoreDone}
-use Rattle.big_atomic.specs.declared.answers.Swap.{Swap as Answer}
 use Rattle.hazard_claims.specs.Scanning.{IsScan}
 use Rattle.hazard_claims.specs.declared.answers.Recheck.{Recheck as Rechecked}
 use Rattle.hazard_claims.specs.declared.answers.Recheck.TheVariants.{Same, Other}
@@ -16,10 +14,10 @@ use Rattle.seat_history.specs.declared.call.Call.TheVariants.{Swap}
 use Rattle.seat_history.specs.declared.entry.Entry.{Entry}
 use Rattle.seat_history.specs.declared.words.TheConstants.{WIDTH}
 use Rattle.step_rules.specs.Bags.{IsWithout}
-use Rattle.step_rules.specs.Claims.{BACK, HOLD, OWN, WALK, On}
+use Rattle.step_rules.specs.Claims.{BACK, HOLD, On}
 use Rattle.step_rules.specs.History.{GoesOn, NoneOn}
 use Rattle.step_rules.specs.Kinds.Standing.{first_look}
-use Rattle.step_rules.specs.SeatData.{IsOf, ObjectData, SeatData}
+use Rattle.step_rules.specs.SeatData.{ObjectData, SeatData}
 use Rattle.step_rules.specs.Sound.{Sound}
 use Rattle.step_rules.specs.Steps.{OnlyStepped, Won, stepped}
 use Rattle.step_rules.specs.Views.{claim_of, counted, look_at, number, stock, words_in}
@@ -144,63 +142,25 @@ pub record Began (shared : ObjectData) (reg : ℕ) (before : SeatData) : Type 0 
   pub there : reg < shared.plan.registers
   pub left : 0 < before.view.changes
 
--- a call that may change its register, of which no step was more than a look or a load so far
-pub record HasOnlyLooked (shared : ObjectData) (reg : ℕ) (steps : List Counted) (look : ℕ) (before now : SeatData) : Type 0 where
-  pub calling : Calling reg steps look before now
-  pub began : Began shared reg before
-  pub looks : AreLooks steps
-  pub same : OnlyStepped before now
-  pub retired : now.view.retired ≡ before.view.retired
-  pub walk : (claim_of WALK now.view).word ≡ 0
-  pub own : (claim_of OWN now.view).word ≡ 0
-
--- a call that may change its register; a scan was made only where no node was free, and `tried` says whether an exchange was tried since
-pub record IsChanging (shared : ObjectData) (reg : ℕ) (steps : List Counted) (look : ℕ) (before now : SeatData) : Type 0 where
-  pub calling : Calling reg steps look before now
-  pub began : Began shared reg before
-  pub scans : (scan_loads steps ≡ 0) ⊎ ((scan_loads steps ≡ 4 * before.view.plan.seats) × (length before.free < 1))
-  pub walk : (claim_of WALK now.view).word ≡ 0
-
 -- a node is free; where none was, the seat scanned
 pub record HasRoom (room : Bool) (before now : SeatData) : Type 0 where
   pub some_free : room ≡ true → 0 < length now.free
   pub none_free : room ≡ false → now.free ≡ []
   pub made : ((0 < length before.free) × (now ≡ before)) ⊎ ((before.free ≡ []) × IsScan before now)
 
--- the seat took a free node, filled it with the record, announced it, and holds it
-pub record IsPrepared (node : ℕ) (rec : List ℕ) (before now : SeatData) : Type 0 where
+-- the seat took a free node, filled it with the record, and holds it
+pub record HoldsFilled (node : ℕ) (rec : List ℕ) (before now : SeatData) : Type 0 where
   pub steps : List Counted
   pub goes : (k : ℕ) → Goes k (Some (length before.view.seen)) steps before now
   pub looks : AreLooks steps
   pub none_lost : lost_steps steps ≡ 0
-  pub few : length steps ≤ WIDTH + 3
+  pub few : length steps ≤ WIDTH + 2
   pub free : IsWithout node before.free now.free
   pub holding : now.holding ≡ before.holding ++ node ∷ []
   pub own : has (nodes_of now.view.own) node ≡ true
   pub words : words_in now.view.own node ≡ rec ++ 0 ∷ []
-  pub mine : On (claim_of OWN now.view) node
-  pub others : (c : ℕ) → (c ≡ OWN → ⊥) → claim_of c now.view ≡ claim_of c before.view
-  pub seen : now.view.seen ≡ before.view.seen
-  pub look : now.view.look ≡ before.view.look
+  pub view : now.view ≡ record before.view { own = now.view.own; trail = now.view.trail }
   pub noted : now.noted ≡ before.noted
-
--- the Back claim stands on the node of the word that was found last in the register's cell, with the record that the register had where the claim
--- began to stand, and not the new one; the seat holds just the node with the new one, and has announced it; no link is noted
-pub record IsWorking (shared : ObjectData) (reg word node : ℕ) (now_there new : List ℕ) (seat : SeatData) : Type 0 where
-  pub ours : IsOf shared seat
-  pub there : reg < shared.plan.registers
-  pub stands : On (claim_of BACK seat.view) (word / 2)
-  pub cell : (claim_of BACK seat.view).cell ≡ reg
-  pub record_is : register_at seat.view (claim_of BACK seat.view).at reg ≡ now_there
-  pub other : is_same now_there new ≡ false
-  pub found : HasFound reg word seat.view
-  pub holding : seat.holding ≡ node ∷ []
-  pub own : has (nodes_of seat.view.own) node ≡ true
-  pub words : words_in seat.view.own node ≡ new ++ 0 ∷ []
-  pub mine : On (claim_of OWN seat.view) node
-  pub none : seat.noted ≡ []
-  pub left : 0 < seat.view.changes
-  pub sound : Sound seat.view
 
 -- the exchange found the same node with another mark once, or wasn't tried yet
 pub record HasRetried (reg : ℕ) (tries : List Counted) (before mid : SeatData) : Type 0 where
@@ -235,23 +195,6 @@ pub record HasLost (reg word other : ℕ) (before now : SeatData) : Type 0 where
   pub found : HasFound reg other now.view
   pub far : other / 2 ≢ word / 2
 
--- whatever came before in the call, the store is done, and the seat is ready
-abbrev pub EndsStore : ObjectData → ℕ → List ℕ → SeatData → SeatData → Type 0
-EndsStore shared reg new now after = (before : SeatData) (steps : List Counted) (look : ℕ) → IsChanging shared reg steps look before now
-    → IsStored reg new StoreDone before after × IsReady shared after
-
--- one exchange was tried: the store is done, or others changed the register, and its node was claimed anew
-abbrev pub HasTurnedOver : ObjectData → ℕ → ℕ → List ℕ → Option ℕ → SeatData → SeatData → Type 0
-HasTurnedOver shared reg node new None now after = EndsStore shared reg new now after
-HasTurnedOver shared reg node new (Some word) now after = (steps : List Counted) × Goes reg (Some (length now.view.seen)) steps now after × (scan_loads steps ≡ 0)
-    × (claim_of HOLD after.view ≡ claim_of HOLD now.view) × (claim_of WALK after.view ≡ claim_of WALK now.view)
-    × ((rec : List ℕ) × IsWorking shared reg word node rec new after) × (length now.view.seen < length after.view.seen)
-
--- whatever looks, loads and scan came before in the call, the compare-and-swap is answered so, and the seat is ready
-abbrev pub EndsSwap : ObjectData → ℕ → List ℕ → List ℕ → ℕ → Answer → SeatData → SeatData → Type 0
-EndsSwap shared reg old new look answer now after = (before : SeatData) (steps : List Counted) → IsChanging shared reg steps look before now → Costs 0 0 (WIDTH + 5 + 4 * before.view.plan.seats) steps
-    → IsSwapped reg old new answer before after × IsReady shared after
-
 -- the first place from q on, and at most n further, at which the register isn't old
 abbrev pub first_unlike : ℕ → List ℕ → List Entry → ℕ → ℕ → ℕ
 first_unlike reg old seen q zero = q
@@ -265,8 +208,3 @@ refused_at from _ v = from
 -- where the look at the cell was that the last three steps began with
 abbrev pub tried_at : ℕ → View → ℕ
 tried_at reg v = unwrap_or (first_look reg (drop (length v.trail - 3) v.trail)) 0
-
--- the same from the look on
-abbrev pub SwapsFromLooks : ObjectData → ℕ → List ℕ → List ℕ → ℕ → Answer → SeatData → SeatData → Type 0
-SwapsFromLooks shared reg old new look answer now after = (before : SeatData) (steps : List Counted) → HasOnlyLooked shared reg steps look before now → Costs 0 0 3 steps
-    → IsSwapped reg old new answer before after × IsReady shared after

@@ -1,5 +1,6 @@
 pub mod Calling
 pub mod Calls
+pub mod Giving
 pub mod Installing
 pub mod Lines
 pub mod Ready

@@ -41,3 +41,14 @@ pub enum Install {
     /// The cell's backup was found to name another node, by this word. The cell and the history stay.
     Moved(u64),
 }
+
+/// What a try to give a register a record comes to.
+#[derive(Clone, Copy, Drop)]
+pub(crate) enum Given {
+    /// The register has the record.
+    Done,
+    /// The register stays, since no node is free.
+    Full,
+    /// Another caller's change came before.
+    Moved,
+}

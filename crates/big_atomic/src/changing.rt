@@ -1,16 +1,16 @@
 //! What calls that change a register have in common.
-ghost use Rattle.std.specs.Prelude.{◌≡◌, ◌<◌, true, false, length};
-ghost use Rattle.big_atomic.specs.Calling.{HasRoom, IsPrepared};
+ghost use Rattle.std.specs.Prelude.{◌≡◌, ◌<◌, length};
+ghost use Rattle.big_atomic.specs.Calling.{HasRoom, HoldsFilled};
 ghost use Rattle.big_atomic.specs.Installing.{Exchanged, HasNear};
-ghost use Rattle.step_rules.specs.Claims.{BACK, OWN};
+ghost use Rattle.step_rules.specs.Claims.{OWN};
 ghost use Rattle.step_rules.specs.Kinds.Backup.{MayExchange};
 ghost use Rattle.step_rules.specs.SeatData.{IsOf, IsSeat};
-ghost use Rattle.step_rules.specs.Steps.{DropsNoted, HoldsFront, stepped, unnoted};
-ghost use Rattle.step_rules.specs.Views.{claim_of, cleared_view};
+ghost use Rattle.step_rules.specs.Steps.{DropsNoted, HoldsFront};
+ghost use Rattle.step_rules.specs.Views.{claim_of};
 
 use crate::answers::Install;
 use crate::claiming::words_of;
-use hazard_claims::{Claim, announce, release, scan};
+use hazard_claims::scan;
 use node_pool::{fill, take};
 use seat_history::{Call, Rec};
 use step_rules::{Seat, Shared, backup_exchange};
@@ -29,18 +29,17 @@ pub(crate) fn make_room(shared: &Shared, seat: &mut Seat) -> bool
     seat.free() > 0
 }
 
-/// Takes a free node, fills it with the record and announces it.
-pub(crate) fn prepare_node(shared: &Shared, seat: &mut Seat, rec: Rec) -> u32
+/// Takes a free node and fills it with the record.
+pub(crate) fn fill_node(shared: &Shared, seat: &mut Seat, rec: Rec) -> u32
     requires ours { IsOf shared.now seat.old }
     requires free { 0 < length seat.old.free }
     requires own { (claim_of OWN seat.old.view).word ≡ 0 }
     requires law { IsSeat seat.old }
-    ensures prepared { IsPrepared result rec seat.old seat.new }
+    ensures filled { HoldsFilled result rec seat.old seat.new }
     ensures law { IsSeat seat.new }
 {
     let node = take(shared, seat);
     fill(shared, seat, node, words_of(rec));
-    announce(shared, seat, Claim::Own, node);
     node
 }
 
@@ -76,14 +75,4 @@ pub(crate) fn exchange(
     } else {
         Install::Moved(again)
     }
-}
-
-/// Ends the claims of a call that has exchanged.
-pub(crate) fn end_change(shared: &Shared, seat: &mut Seat)
-    requires ours { IsOf shared.now seat.old }
-    ensures seat { seat.new ≡ stepped (cleared_view BACK (cleared_view OWN seat.old.view)) (unnoted BACK seat.old) }
-    ensures law { IsSeat seat.new }
-{
-    release(shared, seat, Claim::Own);
-    release(shared, seat, Claim::Back);
 }

@@ -5,6 +5,7 @@ mod answering;
 mod answers;
 mod changing;
 mod claiming;
+mod gives;
 mod holds;
 mod installs;
 mod laws;

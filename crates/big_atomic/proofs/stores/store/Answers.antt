@@ -1,56 +1,38 @@
-use Rattle.std.proofs.Common.{◌∙◌, None, sym}
-use Rattle.big_atomic.proofs.Answered.{goes_of, may_answer}
-use Rattle.big_atomic.proofs.Deciding.{begins, room_ours}
-use Rattle.big_atomic.proofs.Shortage.{short_end}
-use Rattle.big_atomic.proofs.StoreEnds.{done_at_once, filled, reads_first, store_full, store_short, store_unchanged}
+use Rattle.std.proofs.Common.{ap, refl, rules, subst}
+use Rattle.big_atomic.proofs.Beginning.{begins, store_again, store_starts, turn_smaller}
+use Rattle.big_atomic.proofs.Deciding.{past_ours, stored}
+use Rattle.big_atomic.specs.Calls.{IsStored}
+use Rattle.big_atomic.specs.declared.answers.Stored.TheVariants.{Done as StoreDone, Full as StoreFull}
+use Rattle.step_rules.specs.SeatData.{SeatData}
+use Rattle.step_rules.specs.declared.view.View.{View}
 use Rattle.big_atomic.proofs.stores.store.Goals as goal
 
-pub answer_now-requires-clause-ours : goal.answer_now-requires-clause-ours
-answer_now-requires-clause-ours c = goes_of (c.claim_record-found.ensures.claimed.0.0.goes None) c.requires.ready.ours
+pub turns-init : goal.turns-init
+turns-init c = store_starts (begins c.requires.ready c.requires.there c.requires.left) (search rules) c.claim_record-found.ensures.claimed c.claim_record-found.ensures.law
 
-pub answer_now-requires-clause-may : goal.answer_now-requires-clause-may
-answer_now-requires-clause-may c =
-    let r = reads_first (begins c.requires.ready c.requires.there c.requires.left) c.claim_record-found.ensures.claimed c.claim_record-found.ensures.law in
-    may_answer (done_at_once r c.args.new (sym c.eq.ensures ∙ c.if-eq.true))
+pub returns-in-Done : goal.returns-in-Done
+returns-in-Done c =
+    let i = c.turns.invariant in
+    let s = stored StoreDone (c.in-Done.ensures.given i.0 i.3) in
+    record { ready = s.1; stored = subst (λ (z : SeatData). IsStored c.args.reg c.args.new StoreDone z c.give.new.seat) i.1 s.0 }
 
-pub returns-then-eq : goal.returns-then-eq
-returns-then-eq c =
-    let r = reads_first (begins c.requires.ready c.requires.there c.requires.left) c.claim_record-found.ensures.claimed c.claim_record-found.ensures.law in
-    let s = store_unchanged r c.args.new (sym c.eq.ensures ∙ c.if-eq.true) c.answer_now.ensures.seat c.answer_now.ensures.law in
-    record { ready = s.1; stored = s.0 }
+pub returns-in-Full : goal.returns-in-Full
+returns-in-Full c =
+    let i = c.turns.invariant in
+    let s = stored (StoreFull 1 0) (c.in-Full.ensures.given i.0 i.3) in
+    record { ready = s.1; stored = subst (λ (z : SeatData). IsStored c.args.reg c.args.new (StoreFull 1 0) z c.give.new.seat) i.1 s.0 }
 
-pub make_room-requires : goal.make_room-requires
-make_room-requires c = record { ours = goes_of (c.claim_record-found.ensures.claimed.0.0.goes None) c.requires.ready.ours; law = c.claim_record-found.ensures.law }
+-- another turn
+pub claim_record-found-requires-in-turns-clause-ours : goal.claim_record-found-requires-in-turns-clause-ours
+claim_record-found-requires-in-turns-clause-ours c = let i = c.turns.invariant in past_ours (c.in-Moved.ensures.given i.0 i.3).at.past
 
--- no node is free
-pub answer_now-requires-then-not-make_room : goal.answer_now-requires-then-not-make_room
-answer_now-requires-then-not-make_room c =
-    let r = reads_first (begins c.requires.ready c.requires.there c.requires.left) c.claim_record-found.ensures.claimed c.claim_record-found.ensures.law in
-    record {
-      ours = room_ours (goes_of (c.claim_record-found.ensures.claimed.0.0.goes None) c.requires.ready.ours) c.if-not-make_room.ensures.room;
-      may = may_answer (short_end (store_short r c.args.new (sym c.eq.ensures ∙ c.if-eq.false) c.if-not-make_room.ensures.room c.make_room.ensures.law));
-    }
+pub turns-preserved : goal.turns-preserved
+turns-preserved c =
+    let i = c.turns.invariant in
+    (i.0, i.1, i.2, store_again (c.in-Moved.ensures.given i.0 i.3) i.2 c.claim_record-found-in-turns.ensures.claimed c.claim_record-found-in-turns.ensures.law)
 
-pub returns-then-not-make_room : goal.returns-then-not-make_room
-returns-then-not-make_room c =
-    let r = reads_first (begins c.requires.ready c.requires.there c.requires.left) c.claim_record-found.ensures.claimed c.claim_record-found.ensures.law in
-    let s = store_full r c.args.new (sym c.eq.ensures ∙ c.if-eq.false) c.if-not-make_room.ensures.room c.make_room.ensures.law
-    c.answer_now-then-not-make_room.ensures.seat c.answer_now-then-not-make_room.ensures.law in
-    record { ready = s.1; stored = s.0 }
-
--- a node is taken
-pub prepare_node-node-requires-clause-ours : goal.prepare_node-node-requires-clause-ours
-prepare_node-node-requires-clause-ours c = room_ours (goes_of (c.claim_record-found.ensures.claimed.0.0.goes None) c.requires.ready.ours) c.if-not-make_room.ensures.room
-
-pub replace_record-requires : goal.replace_record-requires
-replace_record-requires c =
-    let r = reads_first (begins c.requires.ready c.requires.there c.requires.left) c.claim_record-found.ensures.claimed c.claim_record-found.ensures.law in
-    let t = filled r (sym c.eq.ensures ∙ c.if-eq.false) c.if-not-make_room.ensures.room c.make_room.ensures.law c.prepare_node-node.ensures.prepared c.prepare_node-node.ensures.law in
-    record { past = (c.args.seat.now, t.0, t.1, t.2.changing); working = (c.claim_record-found.result.rec, t.2.working); law = c.prepare_node-node.ensures.law }
-
-pub returns : goal.returns
-returns c =
-    let r = reads_first (begins c.requires.ready c.requires.there c.requires.left) c.claim_record-found.ensures.claimed c.claim_record-found.ensures.law in
-    let t = filled r (sym c.eq.ensures ∙ c.if-eq.false) c.if-not-make_room.ensures.room c.make_room.ensures.law c.prepare_node-node.ensures.prepared c.prepare_node-node.ensures.law in
-    let s = c.replace_record.ensures.done c.args.seat.now t.0 t.1 t.2.changing in
-    record { ready = s.1; stored = s.0 }
+pub turns-smaller : goal.turns-smaller
+turns-smaller c =
+    let i = c.turns.invariant in
+    turn_smaller (c.in-Moved.ensures.given i.0 i.3) i.2 c.claim_record-found-in-turns.ensures.claimed c.claim_record-found-in-turns.ensures.law c.turns.seat.view
+    (ap (λ (z : View). z.plan) i.3.at.past.calling.goes.only) refl

@@ -1,98 +1,82 @@
-use Rattle.std.proofs.Common.{◌≡◌, ◌∙◌, ◌/◌, ℕ, List, length, sym, ap, arith, inl, not, false}
+use Rattle.std.proofs.Common.{◌≡◌, ◌∙◌, ◌/◌, ℕ, List, not, false, sym, arith}
 use Rattle.std.proofs.lemmas.Bool.{not-false, not-true}
-use Rattle.big_atomic.proofs.Answered.{may_answer}
 use Rattle.big_atomic.proofs.Claimed.{may_load, node_fits}
-use Rattle.big_atomic.proofs.Deciding.{decides, read_costs, room_made}
-use Rattle.big_atomic.proofs.Paid.{costs_then, costs_within}
-use Rattle.big_atomic.proofs.Refusing.{may_refuse, refused}
-use Rattle.big_atomic.proofs.Shortage.{short_end}
-use Rattle.big_atomic.proofs.SwapEnds.{read_refuses, room_short, swap_full, swap_unchanged, yes_end}
+use Rattle.big_atomic.proofs.Deciding.{decided, past_ours, read_at, read_there, swap_agrees, swapped}
+use Rattle.big_atomic.proofs.Refusing.{lost_unlike, read_unlike}
+use Rattle.big_atomic.specs.declared.answers.Swap.TheVariants.{Full as SwapFull, Yes as SwapYes}
 use Rattle.seat_history.proofs.Changed.{words_from_same}
-use Rattle.seat_history.specs.History.{state_at}
 use Rattle.seat_history.specs.Step.{is_same}
-use Rattle.seat_history.specs.declared.entry.Entry.{Entry}
 use Rattle.step_rules.specs.Claims.{BACK}
 use Rattle.big_atomic.proofs.swaps.swap_claimed.Goals as goal
 
 pub overflow_cast-word : goal.overflow_cast-word
-overflow_cast-word g c = omega (arith, node_fits c.args.reg c.args.word c.args.seat.now.view c.requires.past.2.calling.goes.sound c.requires.claim.found)
+overflow_cast-word g c = let h = c.requires.past.2 in omega (arith, node_fits c.args.reg c.args.word c.args.seat.now.view h.at.past.law.sound h.claim.found)
 
-pub read_record-rec-requires-clause-known : goal.read_record-rec-requires-clause-known
-read_record-rec-requires-clause-known g c = may_load BACK (c.args.word / 2) c.args.seat.now c.requires.past.2.calling.goes.sound (omega arith) c.requires.claim.stands
+pub read_record-rec-requires : goal.read_record-rec-requires
+read_record-rec-requires g c =
+    let h = c.requires.past.2 in
+    record { ours = past_ours h.at.past; known = may_load BACK (c.args.word / 2) c.args.seat.now h.at.past.law.sound (omega arith) h.claim.stands }
 
 -- another record is there
-pub refuse-requires-clause-may : goal.refuse-requires-clause-may
-refuse-requires-clause-may g c =
-    let d = decides c.requires.past.2 c.requires.claim c.read_record-rec.ensures.read c.read_record-rec.ensures.law in
-    may_refuse c.args.new (read_refuses c.args.old d (not-true (is_same c.read_record-rec.result c.args.old) (sym c.ne.ensures ∙ c.if-ne.true)))
+pub refuse-requires : goal.refuse-requires
+refuse-requires g c =
+    let h = c.requires.past.2 in
+    let r = c.read_record-rec.ensures.read in
+    let law = c.read_record-rec.ensures.law in
+    record {
+      past = (
+        c.requires.past.0,
+        c.requires.past.1,
+        read_unlike (read_at h r law) (omega arith) (omega arith) (read_there h r law) (not-true (is_same c.read_record-rec.result c.args.old) (sym c.ne.ensures ∙ c.if-ne.true)),
+      );
+    }
 
 pub returns-then-ne : goal.returns-then-ne
 returns-then-ne g c = record {
-  ends = λ before steps o costs.
-      let d = decides o c.requires.claim c.read_record-rec.ensures.read c.read_record-rec.ensures.law in
-      let read = read_costs c.args.word o c.read_record-rec.ensures.read c.read_record-rec.ensures.law.sound c.requires.claim.stands costs in
-      let none = read.tried_most in
-      refused c.args.new (read_refuses c.args.old d (not-true (is_same c.read_record-rec.result c.args.old) (sym c.ne.ensures ∙ c.if-ne.true))) c.refuse.ensures.seat c.refuse.ensures.law
-      (costs_within read (omega arith) (omega arith) (omega arith)) (λ e. omega arith) (inl d.only.looks.none_scanned);
+  ends = λ b once h.
+      let r = c.read_record-rec.ensures.read in
+      let law = c.read_record-rec.ensures.law in
+      c.refuse.ensures.ends b once
+      (read_unlike (read_at h r law) (omega arith) (omega arith) (read_there h r law) (not-true (is_same c.read_record-rec.result c.args.old) (sym c.ne.ensures ∙ c.if-ne.true)));
 }
 
 -- the old record is there
 was_old : (rec old : List ℕ) → not (is_same rec old) ≡ false → rec ≡ old
 was_old rec old is = words_from_same rec old (not-false (is_same rec old) is)
 
--- and is the new one
-pub answer_now-requires-clause-may : goal.answer_now-requires-clause-may
-answer_now-requires-clause-may g c =
-    let d = decides c.requires.past.2 c.requires.claim c.read_record-rec.ensures.read c.read_record-rec.ensures.law in
-    let is = was_old c.read_record-rec.result c.args.old (sym c.ne.ensures ∙ c.if-ne.false) in
-    may_answer (yes_end c.args.new d.only (d.there ∙ is) (sym c.eq.ensures ∙ c.if-eq.true))
-
-pub returns-then-eq : goal.returns-then-eq
-returns-then-eq g c = record {
-  ends = λ before steps o costs.
-      let d = decides o c.requires.claim c.read_record-rec.ensures.read c.read_record-rec.ensures.law in
-      let is = was_old c.read_record-rec.result c.args.old (sym c.ne.ensures ∙ c.if-ne.false) in
-      swap_unchanged c.args.new d.only (d.there ∙ is) (sym c.eq.ensures ∙ c.if-eq.true) c.answer_now.ensures.seat c.answer_now.ensures.law
-      (read_costs c.args.word o c.read_record-rec.ensures.read c.read_record-rec.ensures.law.sound c.requires.claim.stands costs);
+pub give-requires : goal.give-requires
+give-requires g c = record {
+  past = (
+    c.requires.past.0,
+    decided c.requires.past.2 c.read_record-rec.ensures.read c.read_record-rec.ensures.law
+        (swap_agrees c.args.reg c.read_record-rec.result c.args.old c.args.new (was_old c.read_record-rec.result c.args.old (sym c.ne.ensures ∙ c.if-ne.false))),
+  );
 }
 
--- no node is free
-pub answer_now-requires-then-not-make_room-clause-may : goal.answer_now-requires-then-not-make_room-clause-may
-answer_now-requires-then-not-make_room-clause-may g c =
-    let d = decides c.requires.past.2 c.requires.claim c.read_record-rec.ensures.read c.read_record-rec.ensures.law in
-    let is = was_old c.read_record-rec.result c.args.old (sym c.ne.ensures ∙ c.if-ne.false) in
-    may_answer (short_end (room_short c.args.new d is (sym c.eq.ensures ∙ c.if-eq.false) c.if-not-make_room.ensures.room c.make_room.ensures.law))
-
-pub returns-then-not-make_room : goal.returns-then-not-make_room
-returns-then-not-make_room g c = record {
-  ends = λ before steps o costs.
-      let d = decides o c.requires.claim c.read_record-rec.ensures.read c.read_record-rec.ensures.law in
-      let is = was_old c.read_record-rec.result c.args.old (sym c.ne.ensures ∙ c.if-ne.false) in
-      let short = room_short c.args.new d is (sym c.eq.ensures ∙ c.if-eq.false) c.if-not-make_room.ensures.room c.make_room.ensures.law in
-      swap_full short c.answer_now-then-not-make_room.ensures.seat c.answer_now-then-not-make_room.ensures.law
-      (read_costs c.args.word o c.read_record-rec.ensures.read c.read_record-rec.ensures.law.sound c.requires.claim.stands costs);
+pub returns-in-Done : goal.returns-in-Done
+returns-in-Done g c = record {
+  ends = λ b once h.
+      let agrees = swap_agrees c.args.reg c.read_record-rec.result c.args.old c.args.new (was_old c.read_record-rec.result c.args.old (sym c.ne.ensures ∙ c.if-ne.false)) in
+      swapped SwapYes (c.in-Done.ensures.given b (decided h c.read_record-rec.ensures.read c.read_record-rec.ensures.law agrees)) once.once (λ e. absurd cc);
 }
 
--- the exchange is tried
-pub swap_record-requires-clause-past : goal.swap_record-requires-clause-past
-swap_record-requires-clause-past g c =
-    let d = decides c.requires.past.2 c.requires.claim c.read_record-rec.ensures.read c.read_record-rec.ensures.law in
-    let m = room_made d.only c.if-not-make_room.ensures.room c.read_record-rec.ensures.law c.make_room.ensures.law in
-    (c.requires.past.0, _, m.changing)
+pub returns-in-Full : goal.returns-in-Full
+returns-in-Full g c = record {
+  ends = λ b once h.
+      let agrees = swap_agrees c.args.reg c.read_record-rec.result c.args.old c.args.new (was_old c.read_record-rec.result c.args.old (sym c.ne.ensures ∙ c.if-ne.false)) in
+      swapped (SwapFull 1 0) (c.in-Full.ensures.given b (decided h c.read_record-rec.ensures.read c.read_record-rec.ensures.law agrees)) once.once (λ e. absurd cc);
+}
 
-pub swap_record-requires-clause-found : goal.swap_record-requires-clause-found
-swap_record-requires-clause-found g c =
-    let d = decides c.requires.past.2 c.requires.claim c.read_record-rec.ensures.read c.read_record-rec.ensures.law in
-    let m = room_made d.only c.if-not-make_room.ensures.room c.read_record-rec.ensures.law c.make_room.ensures.law in
-    let is = was_old c.read_record-rec.result c.args.old (sym c.ne.ensures ∙ c.if-ne.false) in
-    ap (λ (s : List Entry). (state_at s (length s)).registers c.args.reg) m.seen ∙ (d.there ∙ is)
+-- another caller's change came before
+pub refuse-requires-in-Moved : goal.refuse-requires-in-Moved
+refuse-requires-in-Moved g c =
+    let agrees = swap_agrees c.args.reg c.read_record-rec.result c.args.old c.args.new (was_old c.read_record-rec.result c.args.old (sym c.ne.ensures ∙ c.if-ne.false)) in
+    let l = c.in-Moved.ensures.given c.requires.past.0 (decided c.requires.past.2 c.read_record-rec.ensures.read c.read_record-rec.ensures.law agrees) in
+    record { past = (c.requires.past.0, c.requires.past.1, lost_unlike l) }
 
-pub returns : goal.returns
-returns g c = record {
-  ends = λ before steps o costs.
-      let d = decides o c.requires.claim c.read_record-rec.ensures.read c.read_record-rec.ensures.law in
-      let m = room_made d.only c.if-not-make_room.ensures.room c.read_record-rec.ensures.law c.make_room.ensures.law in
-      let few = m.few in
-      c.swap_record.ensures.ends before _ m.changing
-      (costs_then m.more (read_costs c.args.word o c.read_record-rec.ensures.read c.read_record-rec.ensures.law.sound c.requires.claim.stands costs) m.none_lost m.none_tried (omega arith));
+pub returns-in-Moved : goal.returns-in-Moved
+returns-in-Moved g c = record {
+  ends = λ b once h.
+      let agrees = swap_agrees c.args.reg c.read_record-rec.result c.args.old c.args.new (was_old c.read_record-rec.result c.args.old (sym c.ne.ensures ∙ c.if-ne.false)) in
+      c.refuse-in-Moved.ensures.ends b once (lost_unlike (c.in-Moved.ensures.given b (decided h c.read_record-rec.ensures.read c.read_record-rec.ensures.law agrees)));
 }

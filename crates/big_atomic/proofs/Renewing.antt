@@ -1,0 +1,233 @@
+-- How a register is given a record: by a filled node that is installed in place of the claimed one.
+use Rattle.std.proofs.Common.{◌≡◌, ◌∙◌, ℕ, ◌+◌, ◌*◌, ◌/◌, ◌<◌, true, false, List, [], ◌∷◌, ◌++◌, length, take, drop, length-append, refl, sym, ap, subst, arith, inl, inr, ⊎_elim}
+use Rattle.std.proofs.lemmas.Bool.{false≢true}
+use Rattle.std.proofs.lemmas.List.{take_all}
+use Rattle.big_atomic.proofs.Deciding.{HasRoomFor, there_now}
+use Rattle.big_atomic.proofs.Ending.{released_else}
+use Rattle.big_atomic.proofs.Goings.{calling_then}
+use Rattle.big_atomic.proofs.Installed.{EndsChange, LostInstall, announce_else, change_costs, change_ready, change_scanned, change_tried, lost_install, won_change}
+use Rattle.big_atomic.proofs.Paid.{costs_then, costs_within, exchanges-append, lost-append, scan_loads-append}
+use Rattle.big_atomic.proofs.Winning.{all_steps, has_won, won_reply, won_stays}
+use Rattle.big_atomic.specs.Calling.{Calling, Costs, HoldsFilled}
+use Rattle.big_atomic.specs.Calls.{ScansForWant}
+use Rattle.big_atomic.specs.Giving.{Begun, HasLostTurn, HasTold, Past}
+use Rattle.big_atomic.specs.Installing.{HasInstalled, HasMoved, MayInstall}
+use Rattle.big_atomic.specs.Turns.{exchanges, scan_loads}
+use Rattle.hazard_claims.specs.Claiming.{IsReleased}
+use Rattle.hazard_claims.specs.declared.claims.Claim.TheVariants.{Back, Own}
+use Rattle.seat_history.specs.Change.{is_change}
+use Rattle.seat_history.specs.Contents.{Contents}
+use Rattle.seat_history.specs.History.{state_at}
+use Rattle.seat_history.specs.declared.call.Call.{Call}
+use Rattle.seat_history.specs.declared.entry.Entry.{Entry}
+use Rattle.seat_history.specs.declared.reply.Reply.{Reply}
+use Rattle.seat_history.specs.declared.words.TheConstants.{WIDTH}
+use Rattle.step_rules.proofs.Numbers.Places.{at_there}
+use Rattle.step_rules.proofs.Order.MayChange.{front_may}
+use Rattle.step_rules.proofs.Order.RecordsTell.{register_records}
+use Rattle.step_rules.proofs.Ties.Notes.{drops_alone}
+use Rattle.step_rules.proofs.World.Registers.{claim_chain, one_has, page_record}
+use Rattle.step_rules.specs.Claims.{BACK, HOLD, IsClaim, On, WALK}
+use Rattle.step_rules.specs.Fronts.{IsFront}
+use Rattle.step_rules.specs.History.{NoneOn}
+use Rattle.step_rules.specs.Records.{Edit, dropped_count, is_change_in, need, records_at, records_of, set}
+use Rattle.step_rules.specs.SeatData.{IsSeat, ObjectData, SeatData}
+use Rattle.step_rules.specs.Steps.{DropsNoted, HoldsFront}
+use Rattle.step_rules.specs.Views.{claim_of, claimed_pages, claimed_records, followed, silent, words_in}
+use Rattle.step_rules.specs.World.{Linked, has, link, nodes_of}
+use Rattle.step_rules.specs.declared.layout.TheConstants.{NODE_WIDTH}
+use Rattle.step_rules.specs.declared.plan.Plan.{Plan}
+use Rattle.step_rules.specs.declared.view.Claim.{Claim}
+use Rattle.step_rules.specs.declared.view.Counted.{Counted}
+use Rattle.step_rules.specs.declared.view.Held.{Held}
+use Rattle.step_rules.specs.declared.view.View.{View}
+
+module _ {shared : ObjectData} {reg : ℕ} {new : List ℕ} {done : Reply} {call : Call} {b : Begun shared reg new done call} {word seen node : ℕ} {u w : SeatData}
+    (r : HasRoomFor b word seen u) (f : HoldsFilled node new u w) (law : IsSeat w) where
+  -- THE NODE IS FILLED
+  back : claim_of BACK w.view ≡ claim_of BACK u.view
+  back = ap (λ (z : View). claim_of BACK z) f.view
+
+  seen_same : w.view.seen ≡ u.view.seen
+  seen_same = ap (λ (z : View). z.seen) f.view
+
+  stands : On (claim_of BACK w.view) (word / 2)
+  stands = subst (λ (y : Claim). On y (word / 2)) (sym back) r.claim.stands
+
+  cell_is : (claim_of BACK w.view).cell ≡ reg
+  cell_is = ap (λ (y : Claim). y.cell) back ∙ r.claim.cell
+
+  at_is : (claim_of BACK w.view).at ≡ length w.view.seen
+  at_is = ap (λ (y : Claim). y.at) back ∙ (r.claim.now_at ∙ ap (length {A = Entry}) (sym seen_same))
+
+  told_now : IsClaim w.view.plan w.view.seen (claim_of BACK w.view) (word / 2)
+  told_now =
+      let four = law.sound.claims.four in
+      law.sound.claims.told BACK (word / 2) (claim_of BACK w.view) (at_there w.view.claims BACK (silent 0) (omega arith)) (inl refl) stands
+
+  inside : reg < w.view.plan.registers
+  inside = subst (λ (p : Plan). reg < p.registers) (sym (ap (λ (z : View). z.plan) f.view)) (there_now r.past)
+
+  -- the claimed chain is one node, with the register's record
+  alone : drop 1 (claimed_pages w.view) ≡ []
+  alone = ap (drop 1) (claim_chain w.view.plan w.view.seen (claim_of BACK w.view) (word / 2) told_now (subst (λ n. n < w.view.plan.registers) (sym cell_is) inside))
+
+  records : claimed_records w.view ≡ (state_at w.view.seen (length w.view.seen)).registers reg ∷ []
+  records = told_now.records ∙ ((λ i. records_at w.view.plan (take (at_is i) w.view.seen) (cell_is i))
+      ∙ (ap (λ (l : List Entry). records_at w.view.plan l reg) (take_all (length w.view.seen) w.view.seen (omega arith)) ∙ register_records w.view.plan w.view.seen reg inside))
+
+  front : IsFront node (set 0 new) w.view
+  front =
+      let page = page_record node (words_in w.view.own node) new f.words b.gives.long in record {
+        own = λ m h. subst (λ j. has (nodes_of w.view.own) j ≡ true) (one_has node m h) f.own;
+        once = (refl, tt);
+        linked = subst (λ (z : List Held). Linked (record { node = node; words = words_in w.view.own node } ∷ []) (link z 0)) (sym alone) (page.1, tt);
+        records = page.0;
+        whole = ap (λ (z : List Held). records_of (record { node = node; words = words_in w.view.own node } ∷ z)) alone
+            ∙ (page.0 ∙ sym (ap (λ (rs : List (List ℕ)). new ∷ drop 1 rs) records));
+      }
+
+  changes_in : is_change_in (claimed_records w.view) call ≡ true
+  changes_in = ap (λ (rs : List (List ℕ)). is_change_in rs call) records ∙ (b.gives.changes (state_at w.view.seen (length w.view.seen))
+      ∙ (ap (λ (l : List Entry). is_change (state_at l (length l)) call) seen_same ∙ r.changes))
+
+  pub give_may : MayInstall reg word node call w.view
+  give_may = front_may law.sound
+      (record {
+        stands = stands;
+        cell = cell_is;
+        on = b.gives.on w.view.plan;
+        there = b.gives.inside w.view.plan inside;
+        changes = changes_in;
+        wide = b.gives.wide;
+        left = let left = b.began.left in omega (arith, ap (λ (z : View). z.changes) f.view, ap (λ (z : View). z.changes) r.past.calling.goes.only);
+        removes = let none = b.gives.removes in omega arith;
+      })
+      (subst (λ (e : Edit). IsFront node e w.view) (sym (b.gives.edits (claimed_records w.view))) front)
+
+  held : w.holding ≡ node ∷ []
+  held = f.holding ∙ ap (λ (l : List ℕ). l ++ node ∷ []) r.past.idle
+
+  pub give_front : HoldsFront node call w
+  give_front m = ap (λ (l : List ℕ). has l m) held
+      ∙ sym (ap (λ (e : Edit). has (nodes_of (followed w.view.own node (need (length (claimed_records w.view)) e))) m) (b.gives.edits (claimed_records w.view)))
+
+  pub give_noted : DropsNoted call w
+  give_noted = drops_alone call w (ap (λ (e : Edit). dropped_count (length (claimed_records w.view)) e) (b.gives.edits (claimed_records w.view))) (f.noted ∙ r.claim.none refl)
+
+  abbrev steps : List Counted
+  steps = r.past.steps ++ f.steps
+
+  calling : Calling reg steps b.look b.before w
+  calling = calling_then r.past.calling (f.goes reg) (ap (λ (z : View). claim_of HOLD z) f.view)
+
+  spent : b.once ≡ true → Costs 0 0 (2 * WIDTH + 7 + 4 * b.before.view.plan.seats) steps
+  spent once = let few = f.few in costs_then f.steps (r.past.spent once) f.none_lost f.looks.none_exchanged (omega arith)
+
+  -- a call that never changes anything doesn't come here
+  not_never : ((c : Contents) → is_change c call ≡ false) → ⊥
+  not_never never = false≢true (sym (never (state_at u.view.seen (length u.view.seen))) ∙ r.changes)
+
+  -- THE INSTALL WAS LOST
+  module _ {other : ℕ} {after : SeatData} (m : HasMoved reg word node other w after) (last : IsSeat after) where
+    abbrev l : LostInstall reg w after
+    l = lost_install m last
+
+    abbrev lost_all : List Counted
+    lost_all = steps ++ l.steps
+
+    tried : 0 < exchanges lost_all
+    tried = let some = l.some_tried in omega (arith, exchanges-append steps l.steps)
+
+    -- the node is free again
+    free : 0 < length after.free
+    free =
+        let long = law.long in
+        let longer = last.long in
+        let stock = l.goes.stock in
+        omega (arith, ap (length {A = ℕ}) held, ap (length {A = ℕ}) m.holding, ap (length {A = ℕ}) l.retired)
+
+    abbrev lost_past : Past b 1 (2 * WIDTH + 12 + 4 * b.before.view.plan.seats) after
+    lost_past = record {
+      steps = lost_all;
+      calling = calling_then calling l.goes (l.others HOLD (λ e. absurd (omega arith)));
+      scans =
+          let none = l.none_scanned in
+          let none_before = f.looks.none_scanned in
+          ⊎_elim (λ e. inl (omega (arith, scan_loads-append steps l.steps, scan_loads-append r.past.steps f.steps)))
+          (λ e. let all = e.0 in inr (omega (arith, scan_loads-append steps l.steps, scan_loads-append r.past.steps f.steps), e.1)) r.past.scans;
+      walk = ap (λ (y : Claim). y.word) (l.others WALK (λ e. absurd (omega arith))) ∙ (ap (λ (z : View). (claim_of WALK z).word) f.view ∙ r.past.walk);
+      own = l.own_none;
+      idle = m.holding;
+      law = last;
+      never = λ never. absurd (not_never never);
+      spent = λ once.
+          let s = spent once in
+          let none_lost = s.lost_most in
+          let none_tried = s.tried_most in
+          let few = s.most in
+          let one = l.one_lost in
+          let twice = l.twice in
+          let four = l.few in
+          record {
+            lost_most = omega (arith, lost-append steps l.steps);
+            tried_most = omega (arith, exchanges-append steps l.steps);
+            most = omega (arith, length-append steps l.steps);
+          };
+    }
+
+    pub lost_turn : HasLostTurn b seen after
+    lost_turn =
+        let at : length w.view.seen ≡ seen = ap (length {A = Entry}) seen_same ∙ r.seen_is in
+        let longer = l.longer in
+        record {
+          at = record { past = lost_past; turn = inr (tried, free) };
+          tried = tried;
+          changes = not_never;
+          late = let upto = r.past.calling.looked.upto in let is = r.seen_is in omega arith;
+          changed = subst (λ n. ¬ NoneOn after.view.plan reg (drop n after.view.seen)) at l.changed;
+          longer = omega arith;
+        }
+
+  -- THE INSTALL WON
+  module _ {after final : SeatData} (i : HasInstalled reg word node call w after) (ends : IsReleased Back after final) (last : IsSeat final) where
+    walk_none : (claim_of WALK after.view).word ≡ 0
+    walk_none = ap (λ (y : Claim). y.word)
+        (released_else Own i.exchanged after WALK i.ends (λ e. absurd (omega arith))
+        ∙ (ap (λ (z : View). claim_of WALK z) i.won.won.wins.after
+        ∙ (ap (λ (z : View). claim_of WALK z) i.won.retried.view ∙ announce_else node w i.announced i.announces WALK (λ e. absurd (omega arith)))))
+        ∙ (ap (λ (z : View). (claim_of WALK z).word) f.view ∙ r.past.walk)
+
+    abbrev e : EndsChange shared reg word node call steps b.look b.before w after after final
+    e = record {
+      ready = b.began.ready;
+      first = b.began.ready.law;
+      left = b.began.left;
+      on = b.gives.on b.before.view.plan;
+      keeps = b.gives.keeps;
+      calling = calling;
+      installed = i;
+      walk = inl (refl, walk_none);
+      back = ends;
+      last = last;
+    }
+
+    pub won_told : HasTold b done final
+    won_told =
+        let wc = won_change e in
+        let h = has_won wc (won_reply wc b.gives.replies) in
+        let all : List Counted = all_steps wc in
+        let none = f.looks.none_scanned in
+        let same : scan_loads all ≡ scan_loads r.past.steps = change_scanned e ∙ omega (arith, scan_loads-append r.past.steps f.steps) in
+        record {
+          answered = h.answered;
+          look_is = h.look_is;
+          hold = won_stays wc;
+          ready = change_ready e;
+          scans = subst (λ (l : List Counted). ScansForWant 1 done l b.before) (sym h.steps_are)
+              (⊎_elim (λ q. inl (same ∙ q)) (λ q. inr (same ∙ q.0, q.1, inr (change_tried e))) r.past.scans);
+          full = λ need free is. absurd (b.gives.not_full need free is);
+          never = λ never. absurd (not_never never);
+          spent = λ once. subst (λ (l : List Counted). Costs 1 2 (3 * NODE_WIDTH + 4 * b.before.view.plan.seats + 16) l) (sym h.steps_are)
+              (costs_within (change_costs e (spent once)) (omega arith) (omega arith) (omega arith));
+        }

@@ -1,0 +1,43 @@
+//! A try to give a register a record.
+ghost use Rattle.std.specs.Prelude.{length};
+ghost use Rattle.big_atomic.specs.Giving.{Begun, Decided, Knows, stage_of};
+
+use crate::answering::answer_now;
+use crate::answers::{Given, Install};
+use crate::changing::{fill_node, make_room};
+use crate::claiming::Image;
+use crate::installs::install;
+use hazard_claims::{Claim, release};
+use seat_history::{Call, Rec, Reply};
+use step_rules::{Seat, Shared};
+
+/// Gives a register, whose node was claimed and has this record, the new one. Where the record is the
+/// new one it exchanges nothing. The call is answered where its register has the record or no node is
+/// free; `done` is the reply where it has it.
+pub(crate) fn give(
+    shared: &Shared,
+    seat: &mut Seat,
+    reg: u32,
+    found: Image,
+    new: Rec,
+    call: Call,
+    done: Reply,
+) -> Given
+    requires past { (b : Begun shared.now reg new done call) × Knows b (Decided found.word found.rec) seat.old }
+    ensures given { (b : Begun shared.now reg new done call) → Knows b (Decided found.word found.rec) seat.old → Knows b (stage_of done result (length seat.old.view.seen)) seat.new }
+{
+    if found.rec == new {
+        answer_now(shared, seat, call, done);
+        return Given::Done;
+    }
+    if !make_room(shared, seat) {
+        answer_now(shared, seat, call, Reply::Full { need: 1, free: 0 });
+        return Given::Full;
+    }
+    let node = fill_node(shared, seat, new);
+    let Install::Installed = install(shared, seat, reg, found.word, node, call) else {
+        return Given::Moved;
+    };
+    release(shared, seat, Claim::Back);
+    Given::Done
+}
