@@ -34,6 +34,7 @@ use Rattle.step_rules.specs.SeatData.{IsOf, IsSeat, ObjectData, SeatData}
 use Rattle.step_rules.specs.Sound.{Sound}
 use Rattle.step_rules.specs.Steps.{HasLooked, HasScanned, MayAnswer, stepped, unnoted}
 use Rattle.step_rules.specs.Views.{claim_of, cleared_view, counted, number, reading, silent, stock, stood_view}
+use Rattle.step_rules.specs.Writers.{WriterSound}
 use Rattle.step_rules.specs.declared.layout.TheConstants.{NODE_WIDTH}
 use Rattle.step_rules.specs.declared.plan.Plan.{Plan}
 use Rattle.step_rules.specs.declared.view.Claim.{Claim}
@@ -135,8 +136,9 @@ cleared_claims p seen claims c k = record {
   told = λ d n. each_set claims c (silent 0) (λ e y. Tells e → On y n → IsClaim p seen y n) (λ _ tells on. absurd (false≢true on.on)) (λ e. λ y. k.told e n y) d;
 }
 
-pub cleared_sound : (c : ℕ) (v : View) → Sound v → Sound (cleared_view c v)
-cleared_sound c v s = record {
+-- after the clear of Back a view is as sound as before
+pub cleared_sound : (v : View) → Sound v → Sound (cleared_view BACK v)
+cleared_sound v s = record {
   plan = s.plan;
   some_number = s.some_number;
   below = s.below;
@@ -149,10 +151,12 @@ cleared_sound c v s = record {
   history = s.history;
   earlier = s.earlier;
   lawful = s.lawful;
-  trail = trail_step v.seen (counted (ClaimClear c) 0 (length v.seen)) s.trail (goes_on_same v.seen) (omega arith);
+  trail = trail_step v.seen (counted (ClaimClear BACK) 0 (length v.seen)) s.trail (goes_on_same v.seen) (omega arith);
   look = s.look;
-  claims = cleared_claims v.plan v.seen v.claims c s.claims;
+  claims = cleared_claims v.plan v.seen v.claims BACK s.claims;
   scan = s.scan;
+  writer = subst (λ (y : Claim). WriterSound v.plan v.seen y v.writer) (sym (get_or-set_other v.claims BACK OWN (silent 0) (silent 0) (λ e. absurd (omega arith)))) s.writer;
+  reader = s.reader;
   within = s.within;
 }
 
@@ -168,7 +172,7 @@ ended_back now sound = record {
   few = omega arith;
   none_scanned = refl;
   others = λ c ne. get_or-set_other now.view.claims BACK c (silent 0) (silent 0) ne;
-  sound = cleared_sound BACK now.view sound;
+  sound = cleared_sound now.view sound;
 }
 
 pub back_cleared : (v : View) → Sound v → (claim_of BACK (cleared_view BACK v)).word ≡ 0

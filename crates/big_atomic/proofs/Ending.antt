@@ -23,7 +23,7 @@ pub record EndsBy (clears : List Counted) (u w : SeatData) : Type 0 where
   pub object : w.object ≡ u.object
   pub first : w.first ≡ u.first
   pub holding : w.holding ≡ u.holding
-  pub view : w.view ≡ record u.view { claims = w.view.claims; trail = u.view.trail ++ clears }
+  pub view : w.view ≡ record u.view { claims = w.view.claims; trail = u.view.trail ++ clears; writer = w.view.writer }
   pub still : AreStill clears
   pub none_scanned : scan_loads clears ≡ 0
   pub hold : claim_of HOLD w.view ≡ claim_of HOLD u.view
@@ -63,7 +63,7 @@ ends_one which u w other is =
       object = ap (λ (z : SeatData). z.object) is;
       first = ap (λ (z : SeatData). z.first) is;
       holding = ap (λ (z : SeatData). z.holding) is;
-      view = subst (λ (z : View). z ≡ record u.view { claims = z.claims; trail = u.view.trail ++ clearing (claim_number which) u }) (sym view) refl;
+      view = subst (λ (z : View). z ≡ record u.view { claims = z.claims; trail = u.view.trail ++ clearing (claim_number which) u; writer = z.writer }) (sym view) refl;
       still = refl;
       none_scanned = refl;
       hold = released_else which u w HOLD is other;
@@ -88,8 +88,8 @@ ends_then {a} {b} {u} {v} {w} p q =
       object = q.object ∙ p.object;
       first = q.first ∙ p.first;
       holding = q.holding ∙ p.holding;
-      view = q.view ∙ (ap (λ (z : View). record z { claims = w.view.claims; trail = z.trail ++ b }) p.view
-          ∙ ap (λ (t : List Counted). record u.view { claims = w.view.claims; trail = t }) (append_assoc u.view.trail a b));
+      view = q.view ∙ (ap (λ (z : View). record z { claims = w.view.claims; trail = z.trail ++ b; writer = w.view.writer }) p.view
+          ∙ ap (λ (t : List Counted). record u.view { claims = w.view.claims; trail = t; writer = w.view.writer }) (append_assoc u.view.trail a b));
       still = still-append a b p.still q.still;
       none_scanned = omega (arith, scan_loads-append a b);
       hold = q.hold ∙ p.hold;

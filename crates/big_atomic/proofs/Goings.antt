@@ -54,7 +54,19 @@ pub drop_parts : (n : ℕ) (b c : List Entry) → n ≤ length b → (next : Goe
 drop_parts n b c low next = ap (drop n) next.1 ∙ (drop-append-le n b next.0 low ∙ ap (λ r. drop n b ++ r) (sym (ap (drop (length b)) next.1 ∙ drop-append_seam b next.0)))
 
 pub only_then : (u v w : View) → OnlySteps u v → OnlySteps v w → OnlySteps u w
-only_then u v w p q = q ∙ ap (λ (z : View). record z { seen = w.seen; own = w.own; retired = w.retired; look = w.look; trail = w.trail; claims = w.claims; scan = w.scan }) p
+only_then u v w p q = q ∙ ap
+    (λ (z : View). record z {
+      seen = w.seen;
+      own = w.own;
+      retired = w.retired;
+      look = w.look;
+      trail = w.trail;
+      claims = w.claims;
+      scan = w.scan;
+      reader = w.reader;
+      writer = w.writer;
+    })
+    p
 
 -- lost steps in two stretches of the history
 few_then : (p : Plan) (k x n : ℕ) (a b : List Counted) (seen seen' : List Entry) → n ≤ length seen → GoesOn seen seen' → lost_steps a ≤ changes_on p k x (drop n seen)

@@ -3,7 +3,7 @@ use Rattle.std.proofs.Common.{◌≡◌, ◌≢◌, ◌∙◌, ℕ, ◌+◌, ◌
 use Rattle.std.proofs.lemmas.List.{get_or-set_other}
 use Rattle.big_atomic.proofs.Answered.{goes_of}
 use Rattle.big_atomic.proofs.Claimed.{lost_longer}
-use Rattle.big_atomic.proofs.Ending.{EndsBy, EndsWalk, clearing, cleared_word, ends_one, ends_then, ends_walk, released_else, released_word}
+use Rattle.big_atomic.proofs.Ending.{EndsBy, EndsWalk, clearing, cleared_word, ends_one, ends_then, ends_walk, released_else, released_ours, released_word}
 use Rattle.big_atomic.proofs.Goings.{calling_then, goes_still, goes_then}
 use Rattle.big_atomic.proofs.Paid.{costs_then, costs_within, exchanges-append, lost-append, scan_loads-append}
 use Rattle.big_atomic.proofs.Winning.{WonCall, all_steps, exchanges_most, stand, won_costs, won_ready, won_records, won_scanned, won_tried}
@@ -23,6 +23,7 @@ use Rattle.seat_history.specs.declared.call.Call.{Call}
 use Rattle.seat_history.specs.declared.entry.Entry.{Entry}
 use Rattle.step_rules.proofs.World.Chains.{head_has}
 use Rattle.step_rules.proofs.Order.Fronts.{followed_link, length-followed, need_some}
+use Rattle.step_rules.proofs.Rely.Writers.{locked_flies}
 use Rattle.step_rules.specs.Bags.{times}
 use Rattle.step_rules.specs.Claims.{BACK, HOLD, OWN, On, WALK}
 use Rattle.step_rules.specs.History.{NoneOn, cell_of}
@@ -38,6 +39,7 @@ use Rattle.step_rules.specs.declared.view.Claim.{Claim}
 use Rattle.step_rules.specs.declared.view.Counted.{Counted}
 use Rattle.step_rules.specs.declared.view.Held.{Held}
 use Rattle.step_rules.specs.declared.view.Kind.TheVariants.{ClaimStore}
+use Rattle.step_rules.specs.declared.view.Stage.TheVariants.{Grounded, Locked, Waiting}
 use Rattle.step_rules.specs.declared.view.View.{View}
 
 -- an own front begins with its node
@@ -48,12 +50,26 @@ front_has n call v =
     head_has (fresh_of n call v) n (subst (λ i. 0 < i) (sym (length-followed v.own n count)) some_there) (followed_link v.own n count some_there)
 
 -- so it may be announced
-pub may_announce_front : (node : ℕ) (call : Call) (seat : SeatData) → HoldsFront node call seat → MayClaim OWN node seat
-may_announce_front node call seat front = record {
+pub may_announce_front : (node : ℕ) (call : Call) (seat : SeatData) → HoldsFront node call seat → seat.view.writer.stage ≢ Locked → MayClaim OWN node seat
+may_announce_front node call seat front unlocked = record {
   claim = omega arith;
   own = λ _. front node ∙ front_has node call seat.view;
   hold = λ (e : OWN ≡ HOLD). absurd (omega arith);
+  unlocked = λ _. unlocked;
 }
+
+-- a seat whose Own claim word is 0 has no change in flight, and so no lock
+pub no_lock : (v : View) → Sound v → (claim_of OWN v).word ≡ 0 → v.writer.stage ≢ Locked
+no_lock v sound none locked = let on = sound.writer.own (locked_flies v.writer locked) in let at = on.at in absurd (omega arith)
+
+-- after the exchange, won or lost, the seat has no lock
+pub exchange_unlocked : (cell seen node : ℕ) (call : Call) (answer : Answer) (before announced exchanged : SeatData) → IsAnnounced Own node before announced
+    → Exchanged cell seen node call answer announced exchanged → exchanged.view.writer.stage ≢ Locked
+exchange_unlocked cell seen node call Installed before announced exchanged is won =
+    let stage : exchanged.view.writer.stage ≡ Waiting = ap (λ (z : View). z.writer.stage) won.won.wins.after in λ locked. let q : Waiting ≡ Locked = sym stage ∙ locked in cc
+exchange_unlocked cell seen node call (Moved word) before announced exchanged is lost =
+    let stage : exchanged.view.writer.stage ≡ Grounded = ap (λ (z : View). z.writer.stage) lost.view ∙ ap (λ (z : SeatData). z.view.writer.stage) is in
+    λ locked. let q : Grounded ≡ Locked = sym stage ∙ locked in cc
 
 -- THE NODE IS ANNOUNCED
 module _ (node : ℕ) (u w : SeatData) (is : IsAnnounced Own node u w) where
@@ -104,6 +120,11 @@ exchanged_ours cell seen node call u w Installed e of = record {
   plan = ap (λ (z : View). z.plan) e.won.wins.after ∙ (ap (λ (z : View). z.plan) e.retried.view ∙ of.plan);
 }
 exchanged_ours cell seen node call u w (Moved word) e of = goes_of e.goes of
+
+-- the seat stays of its object through an install
+pub installed_ours : {shared : ObjectData} {cell seen node : ℕ} {call : Call} {before after : SeatData} → HasInstalled cell seen node call before after → IsOf shared before → IsOf shared after
+installed_ours {cell = cell} {seen = seen} {node = node} {call = call} {before = before} {after = after} h of =
+    released_ours Own h.exchanged after h.ends (exchanged_ours cell seen node call h.announced h.exchanged Installed h.won (announced_ours node before h.announced h.announces of))
 
 -- every held node is free again
 pub has_moved : {cell seen word : ℕ} (node : ℕ) (before announced exchanged released after : SeatData) → IsAnnounced Own node before announced → Sound announced.view

@@ -20,7 +20,7 @@ use Rattle.step_rules.specs.World.{has}
 use Rattle.step_rules.specs.declared.plan.Plan.{Plan}
 use Rattle.step_rules.specs.declared.view.Counted.{Counted}
 use Rattle.step_rules.specs.declared.view.Kind.{Kind}
-use Rattle.step_rules.specs.declared.view.Kind.TheVariants.{NodeStore, NodeLoad, BackupLoad, BackupExchange, ClaimStore, Recheck, ClaimClear, ScanLoad}
+use Rattle.step_rules.specs.declared.view.Kind.TheVariants.{NodeStore, NodeLoad, BackupLoad, BackupExchange, ClaimStore, Recheck, ClaimClear, ScanLoad, VersionLoad, InlineLoad, VersionAgain, VersionLock, InlineStore, VersionRelease, MarkClear}
 use Rattle.step_rules.specs.declared.view.Stand.{Stand}
 use Rattle.big_atomic.specs.Calling.{Costs}
 use Rattle.step_rules.specs.declared.view.View.{View}
@@ -135,6 +135,13 @@ still_looks k (ClaimStore claim node) e = refl
 still_looks k (Recheck claim cell seen) e = absurd (false≢true e)
 still_looks k (ClaimClear claim) e = refl
 still_looks k (ScanLoad word) e = refl
+still_looks k (VersionLoad cell) e = refl
+still_looks k (InlineLoad cell j) e = refl
+still_looks k (VersionAgain cell) e = refl
+still_looks k (VersionLock cell version) e = refl
+still_looks k (InlineStore cell j word) e = refl
+still_looks k (VersionRelease cell version) e = refl
+still_looks k (MarkClear cell node) e = refl
 
 still_kept : (kind : Kind) (found : ℕ) → still kind ≡ true → (is_lost_by kind found ≡ false) × (is_exchange kind ≡ false)
 still_kept (NodeStore node j word) found e = (refl, refl)
@@ -145,6 +152,13 @@ still_kept (ClaimStore claim node) found e = (refl, refl)
 still_kept (Recheck claim cell seen) found e = absurd (false≢true e)
 still_kept (ClaimClear claim) found e = (refl, refl)
 still_kept (ScanLoad word) found e = (refl, refl)
+still_kept (VersionLoad cell) found e = (refl, refl)
+still_kept (InlineLoad cell j) found e = (refl, refl)
+still_kept (VersionAgain cell) found e = (refl, refl)
+still_kept (VersionLock cell version) found e = (refl, refl)
+still_kept (InlineStore cell j word) found e = (refl, refl)
+still_kept (VersionRelease cell version) found e = (refl, refl)
+still_kept (MarkClear cell node) found e = (refl, refl)
 
 pub still_parts : (s : Counted) (r : List Counted) → AreStill (s ∷ r) → (still s.kind ≡ true) × AreStill r
 still_parts s r e = go (still s.kind) refl e

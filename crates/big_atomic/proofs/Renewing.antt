@@ -1,11 +1,12 @@
 -- How a register is given a record: by a filled node that is installed in place of the claimed one.
-use Rattle.std.proofs.Common.{◌≡◌, ◌∙◌, ℕ, ◌+◌, ◌*◌, ◌/◌, ◌<◌, true, false, List, [], ◌∷◌, ◌++◌, length, take, drop, length-append, refl, sym, ap, subst, arith, inl, inr, ⊎_elim}
+use Rattle.std.proofs.Common.{◌≡◌, ◌≢◌, ◌∙◌, ℕ, ◌+◌, ◌*◌, ◌/◌, ◌<◌, true, false, List, [], ◌∷◌, ◌++◌, length, take, drop, length-append, refl, sym, ap, subst, arith, inl, inr, ⊎_elim}
 use Rattle.std.proofs.lemmas.Bool.{false≢true}
 use Rattle.std.proofs.lemmas.List.{take_all}
-use Rattle.big_atomic.proofs.Deciding.{HasRoomFor, there_now}
+use Rattle.big_atomic.proofs.Answered.{goes_of}
+use Rattle.big_atomic.proofs.Deciding.{HasRoomFor, past_ours, there_now}
 use Rattle.big_atomic.proofs.Ending.{released_else}
 use Rattle.big_atomic.proofs.Goings.{calling_then}
-use Rattle.big_atomic.proofs.Installed.{EndsChange, LostInstall, announce_else, change_costs, change_ready, change_scanned, change_tried, lost_install, won_change}
+use Rattle.big_atomic.proofs.Installed.{EndsChange, LostInstall, announce_else, change_costs, change_ready, change_scanned, change_tried, lost_install, no_lock, won_change}
 use Rattle.big_atomic.proofs.Paid.{costs_then, costs_within, exchanges-append, lost-append, scan_loads-append}
 use Rattle.big_atomic.proofs.Winning.{all_steps, has_won, won_reply, won_stays}
 use Rattle.big_atomic.specs.Calling.{Calling, Costs, HoldsFilled}
@@ -27,11 +28,11 @@ use Rattle.step_rules.proofs.Order.MayChange.{front_may}
 use Rattle.step_rules.proofs.Order.RecordsTell.{register_records}
 use Rattle.step_rules.proofs.Ties.Notes.{drops_alone}
 use Rattle.step_rules.proofs.World.Registers.{claim_chain, one_has, page_record}
-use Rattle.step_rules.specs.Claims.{BACK, HOLD, IsClaim, On, WALK}
+use Rattle.step_rules.specs.Claims.{BACK, HOLD, IsClaim, OWN, On, WALK}
 use Rattle.step_rules.specs.Fronts.{IsFront}
 use Rattle.step_rules.specs.History.{NoneOn}
 use Rattle.step_rules.specs.Records.{Edit, dropped_count, is_change_in, need, records_at, records_of, set}
-use Rattle.step_rules.specs.SeatData.{IsSeat, ObjectData, SeatData}
+use Rattle.step_rules.specs.SeatData.{IsOf, IsSeat, ObjectData, SeatData}
 use Rattle.step_rules.specs.Steps.{DropsNoted, HoldsFront}
 use Rattle.step_rules.specs.Views.{claim_of, claimed_pages, claimed_records, followed, silent, words_in}
 use Rattle.step_rules.specs.World.{Linked, has, link, nodes_of}
@@ -40,6 +41,7 @@ use Rattle.step_rules.specs.declared.plan.Plan.{Plan}
 use Rattle.step_rules.specs.declared.view.Claim.{Claim}
 use Rattle.step_rules.specs.declared.view.Counted.{Counted}
 use Rattle.step_rules.specs.declared.view.Held.{Held}
+use Rattle.step_rules.specs.declared.view.Stage.TheVariants.{Locked}
 use Rattle.step_rules.specs.declared.view.View.{View}
 
 module _ {shared : ObjectData} {reg : ℕ} {new : List ℕ} {done : Reply} {call : Call} {b : Begun shared reg new done call} {word seen node : ℕ} {u w : SeatData}
@@ -114,6 +116,12 @@ module _ {shared : ObjectData} {reg : ℕ} {new : List ℕ} {done : Reply} {call
 
   pub give_noted : DropsNoted call w
   give_noted = drops_alone call w (ap (λ (e : Edit). dropped_count (length (claimed_records w.view)) e) (b.gives.edits (claimed_records w.view))) (f.noted ∙ r.claim.none refl)
+
+  pub give_ours : IsOf shared w
+  give_ours = goes_of (f.goes reg) (past_ours r.past)
+
+  pub give_unlocked : w.view.writer.stage ≢ Locked
+  give_unlocked = no_lock w.view law.sound (ap (λ (z : View). (claim_of OWN z).word) f.view ∙ r.past.own)
 
   abbrev steps : List Counted
   steps = r.past.steps ++ f.steps

@@ -98,8 +98,9 @@ module _ {k word node : ℕ} {call : Call} {steps clears : List Counted} {look :
   final_view : final.view ≡ record (won_view k w.won.found node call log mid.view) {
     claims = final.view.claims;
     trail = (mid.view.trail ++ exchanged ∷ []) ++ clears;
+    writer = final.view.writer;
   }
-  final_view = w.ended.view ∙ ap (λ (z : View). record z { claims = final.view.claims; trail = z.trail ++ clears }) w.won.won.wins.after
+  final_view = w.ended.view ∙ ap (λ (z : View). record z { claims = final.view.claims; trail = z.trail ++ clears; writer = final.view.writer }) w.won.won.wins.after
 
   pub won_claims : (c : ℕ) → claim_of c after.view ≡ claim_of c now.view
   won_claims c = ap (λ (z : View). claim_of c z) w.won.won.wins.after ∙ ap (λ (z : View). claim_of c z) w.won.retried.view

@@ -28,7 +28,17 @@ use Rattle.step_rules.specs.declared.view.View.{View}
 
 -- the view w differs from v at most in what steps before a stand change
 abbrev pub OnlySteps : View → View → Type 0
-OnlySteps v w = w ≡ record v { seen = w.seen; own = w.own; retired = w.retired; look = w.look; trail = w.trail; claims = w.claims; scan = w.scan }
+OnlySteps v w = w ≡ record v {
+  seen = w.seen;
+  own = w.own;
+  retired = w.retired;
+  look = w.look;
+  trail = w.trail;
+  claims = w.claims;
+  scan = w.scan;
+  reader = w.reader;
+  writer = w.writer;
+}
 
 -- a call on the cell k made these steps, and none of them added a stand. `found` is how much it had seen at its last look before them, and at
 -- its last look in them it saw all that it has seen

@@ -1,7 +1,9 @@
 //! The last part of a change of any cell.
+ghost use Rattle.std.specs.Prelude.{◌≢◌};
 ghost use Rattle.big_atomic.specs.Installing.{HasNear, Installs, MayInstall};
 ghost use Rattle.step_rules.specs.SeatData.{IsOf, IsSeat};
 ghost use Rattle.step_rules.specs.Steps.{DropsNoted, HoldsFront};
+ghost use Rattle.step_rules.specs.declared.view.Stage.TheVariants.{Locked};
 
 use crate::answers::Install;
 use crate::changing::exchange;
@@ -28,6 +30,7 @@ pub fn install(
     requires front { HoldsFront node call seat.old }
     requires noted { DropsNoted call seat.old }
     requires found { HasNear cell seen seat.old.view }
+    requires unlocked { seat.old.view.writer.stage ≢ Locked }
     ensures installs { Installs cell seen node call result seat.old seat.new }
     ensures law { IsSeat seat.new }
 {

@@ -4,7 +4,7 @@ use Rattle.std.proofs.lemmas.Bool.{cond-false, eqb-true, false≢true}
 use Rattle.std.proofs.lemmas.List.{take-append-drop, take_all}
 use Rattle.big_atomic.proofs.Answered.{HasAnswered}
 use Rattle.big_atomic.proofs.Goings.{goes_then, looked_then}
-use Rattle.big_atomic.proofs.Installed.{EndsChange, LostInstall, change_ready, change_records, change_scanned, change_tried, lost_install, won_change}
+use Rattle.big_atomic.proofs.Installed.{EndsChange, LostInstall, change_ready, change_records, change_scanned, change_tried, lost_install, no_lock, won_change}
 use Rattle.big_atomic.proofs.Paid.{exchanges-append, lost-append, scan_loads-append}
 use Rattle.big_atomic.proofs.Winning.{all_steps, has_won, stand, won_on, won_plan, won_stays, won_told}
 use Rattle.big_atomic.specs.Installing.{HasInstalled, HasMoved}
@@ -49,6 +49,7 @@ use Rattle.step_rules.specs.Views.{claim_of, claimed_records}
 use Rattle.step_rules.specs.declared.plan.Plan.{Plan}
 use Rattle.step_rules.specs.declared.view.Claim.{Claim}
 use Rattle.step_rules.specs.declared.view.Counted.{Counted}
+use Rattle.step_rules.specs.declared.view.Stage.TheVariants.{Locked}
 use Rattle.step_rules.specs.declared.view.Stand.{Stand}
 use Rattle.step_rules.specs.declared.view.View.{View}
 
@@ -187,6 +188,10 @@ module _ {shared : ObjectData} {key : KeyWords} {change : Change} {cell word : �
     (h : HasFront shared key change cell word due scanned node before mid copied) where
   abbrev j : Changing shared key change cell scanned before mid
   j = h.may.going
+
+  -- no change of the seat has a lock
+  pub copied_unlocked : copied.view.writer.stage ≢ Locked
+  copied_unlocked = no_lock copied.view h.prepared.law.sound (ap (λ (x : Claim). x.word) (h.prepared.claims OWN (λ e. absurd (omega arith))) ∙ j.own)
 
   -- IT WAS LOST
   module _ {other : ℕ} {now : SeatData} (moved : HasMoved cell word node other copied now) (last : IsSeat now) where

@@ -1,8 +1,10 @@
 -- What the rule of the table comes to for versions, inline words and changes in flight.
-use Rattle.std.specs.Prelude.{◌≡◌, ℕ, ◌+◌, ◌/◌, ◌<◌, ◌≤◌, List, take}
+use Rattle.std.specs.Prelude.{◌≡◌, ℕ, ◌+◌, ◌/◌, ◌<◌, ◌≤◌, List, drop, take}
 use mathlib.Core.Option.{some}
 use lib.ListN.{get_elem?}
+use Rattle.seat_history.specs.declared.entry.Entry.{Entry}
 use Rattle.step_rules.specs.Claims.{OWN, On}
+use Rattle.step_rules.specs.History.{NoneOn, cell_of}
 use Rattle.step_rules.specs.Layout.{cells}
 use Rattle.step_rules.specs.Readers.{SeatReader}
 use Rattle.step_rules.specs.Rule.{HoldsAt, backup_word, inline_words, node_words, version_word}
@@ -28,10 +30,13 @@ pub record VersionAgrees (p : Plan) (ws : List ℕ) (vs : List View) (k : ℕ) :
   pub locker : IsOdd (version_word p ws k) → (s : ℕ) × (v : View) × (get_elem? vs s ≡ some v) × IsLocker k v
   pub one : (s t : ℕ) (v u : View) → get_elem? vs s ≡ some v → get_elem? vs t ≡ some u → IsLocker k v → IsLocker k u → s ≡ t
 
--- of a seat
-pub record FlightAgrees (p : Plan) (ws : List ℕ) (v : View) : Type 0 where
+-- of a seat, where the history is this
+pub record FlightAgrees (p : Plan) (ws : List ℕ) (log : List Entry) (v : View) : Type 0 where
   pub found : (k u : ℕ) → FoundVersion k u v.trail → u ≤ version_word p ws k
   pub claimed : Flies v.writer → On (claim_of OWN v) v.writer.node
+  -- the change is an entry of the history on its cell; where the backup names its node, it is the last one there
+  pub change : Flies v.writer → (e : Entry) × (get_elem? log v.writer.change ≡ some e) × (cell_of p e.call ≡ v.writer.cell)
+  pub last : Flies v.writer → backup_word p ws v.writer.cell / 2 ≡ v.writer.node → NoneOn p v.writer.cell (drop (v.writer.change + 1) log)
   -- while a version that was found before the exchange is still there, the backup is marked
   pub waiting : v.writer.stage ≡ Waiting → (u : ℕ) → FoundVersion v.writer.cell u v.writer.before → version_word p ws v.writer.cell ≡ u → IsOdd (backup_word p ws v.writer.cell)
   -- after the lock the version is one more, and as many inline words as were stored are the node's
@@ -50,7 +55,7 @@ abbrev pub VersionsAgree : Type 0
 VersionsAgree = (p : Plan) (ws : List ℕ) (vs : List View) (U : Unwritten) → HoldsAt p ws vs U → (k : ℕ) → k < cells p → VersionAgrees p ws vs k
 
 abbrev pub FlightsAgree : Type 0
-FlightsAgree = (p : Plan) (ws : List ℕ) (vs : List View) (U : Unwritten) → HoldsAt p ws vs U → (s : ℕ) (v : View) → get_elem? vs s ≡ some v → FlightAgrees p ws v
+FlightsAgree = (p : Plan) (ws : List ℕ) (vs : List View) (U : Unwritten) → HoldsAt p ws vs U → (s : ℕ) (v : View) → get_elem? vs s ≡ some v → FlightAgrees p ws U.log v
 
 abbrev pub LaterFound : Type 0
 LaterFound = (p : Plan) (ws : List ℕ) (vs : List View) (U : Unwritten) → HoldsAt p ws vs U → (s t : ℕ) (v u : View) → get_elem? vs s ≡ some v → get_elem? vs t ≡ some u → IsLater v u

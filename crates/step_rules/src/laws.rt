@@ -29,9 +29,10 @@ pub fn versions_agree()
     ensures { VersionsAgree }
 {}
 
-/// No version that a seat found is above the cell's. A change in flight finds the cell marked as long as
-/// a version is there that was found before its exchange; what it locked has as many of its words as it
-/// stored; and what it released is its own, while the cell has its node.
+/// No version that a seat found is above the cell's. A change in flight is the last one of its cell while
+/// the backup names its node, and finds the cell marked as long as a version is there that was found
+/// before its exchange; what it locked has as many of its words as it stored; and what it released is its
+/// own, while the cell has its node.
 pub fn flights_agree()
     ensures { FlightsAgree }
 {}

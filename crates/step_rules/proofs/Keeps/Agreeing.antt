@@ -2,6 +2,7 @@
 use Rattle.std.proofs.Common.{◌≡◌, ℕ, ◌+◌, ◌<◌, ◌⊎◌, suc, zero, List, [], ◌∷◌, length, refl, drop, take, sym, ap, ◌∙◌, subst, arith, ⊎_elim, inr}
 use mathlib.Core.Option.{some}
 use lib.ListN.{get_elem?}
+use Rattle.atomic_table.proofs.Lists.{at_longer}
 use Rattle.step_rules.specs.Claims.{OWN}
 use Rattle.step_rules.specs.Flights.{FlightAgrees, IsLater, VersionAgrees}
 use Rattle.step_rules.specs.History.{NoneOn}
@@ -48,10 +49,14 @@ module _ (p : Plan) (ws : List ℕ) (vs : List View) (U : Unwritten) (h : HoldsA
       found_at : (s : ℕ) → s < length vs → (v : View) × (get_elem? vs s ≡ some v)
       found_at s low = there vs s low
 
-  pub flight_agrees : (s : ℕ) (v : View) → get_elem? vs s ≡ some v → FlightAgrees p ws v
+  pub flight_agrees : (s : ℕ) (v : View) → get_elem? vs s ≡ some v → FlightAgrees p ws U.log v
   flight_agrees s v at = let ok = h.seats s v at in let w = v.writer in record {
     found = ok.versions.found;
     claimed = ok.writer.sound.own;
+    change = λ flies.
+        let e = ok.writer.sound.change flies in
+        (e.0, ap (λ l. get_elem? l w.change) ok.seen.whole ∙ at_longer v.seen ok.seen.rest w.change e.0 e.1, e.2);
+    last = ok.writer.last;
     waiting = λ stage u found still.
         let flies = waiting_flies w stage in ⊎_elim
         (λ even. absurd (flight_since ok flies (W.source w.cell u) (ok.writer.later flies u found)

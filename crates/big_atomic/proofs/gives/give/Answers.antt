@@ -1,7 +1,8 @@
 use Rattle.std.proofs.Common.{◌∙◌, sym}
 use Rattle.big_atomic.proofs.Answered.{may_answer}
 use Rattle.big_atomic.proofs.Deciding.{end_there, past_ours, room_for, told_there}
-use Rattle.big_atomic.proofs.Renewing.{give_front, give_may, give_noted, lost_turn, won_told}
+use Rattle.big_atomic.proofs.Installed.{installed_ours}
+use Rattle.big_atomic.proofs.Renewing.{give_front, give_may, give_noted, give_ours, give_unlocked, lost_turn, won_told}
 use Rattle.big_atomic.proofs.Shortage.{short_end, short_told}
 use Rattle.big_atomic.proofs.gives.give.Goals as goal
 
@@ -30,6 +31,10 @@ returns-then-not-make_room c = record {
 }
 
 -- a filled node is installed
+pub install-requires-clause-ours : goal.install-requires-clause-ours
+install-requires-clause-ours c = give_ours (room_for c.requires.past.1 (sym c.eq.ensures ∙ c.if-eq.false) c.if-not-make_room.ensures.room c.make_room.ensures.law)
+    c.fill_node-node.ensures.filled c.fill_node-node.ensures.law
+
 pub install-requires-clause-may : goal.install-requires-clause-may
 install-requires-clause-may c = give_may (room_for c.requires.past.1 (sym c.eq.ensures ∙ c.if-eq.false) c.if-not-make_room.ensures.room c.make_room.ensures.law)
     c.fill_node-node.ensures.filled c.fill_node-node.ensures.law
@@ -41,6 +46,15 @@ install-requires-clause-front c = give_front (room_for c.requires.past.1 (sym c.
 pub install-requires-clause-noted : goal.install-requires-clause-noted
 install-requires-clause-noted c = give_noted (room_for c.requires.past.1 (sym c.eq.ensures ∙ c.if-eq.false) c.if-not-make_room.ensures.room c.make_room.ensures.law)
     c.fill_node-node.ensures.filled c.fill_node-node.ensures.law
+
+pub install-requires-clause-unlocked : goal.install-requires-clause-unlocked
+install-requires-clause-unlocked c = give_unlocked (room_for c.requires.past.1 (sym c.eq.ensures ∙ c.if-eq.false) c.if-not-make_room.ensures.room c.make_room.ensures.law)
+    c.fill_node-node.ensures.filled c.fill_node-node.ensures.law
+
+pub release-requires-clause-ours : goal.release-requires-clause-ours
+release-requires-clause-ours c = installed_ours c.in-Installed.ensures.installs
+    (give_ours (room_for c.requires.past.1 (sym c.eq.ensures ∙ c.if-eq.false) c.if-not-make_room.ensures.room c.make_room.ensures.law)
+    c.fill_node-node.ensures.filled c.fill_node-node.ensures.law)
 
 pub returns-in_default : goal.returns-in_default
 returns-in_default c = record {

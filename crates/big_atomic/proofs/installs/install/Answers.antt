@@ -1,10 +1,10 @@
 use Rattle.big_atomic.proofs.Ending.{released_ours, released_stands}
-use Rattle.big_atomic.proofs.Installed.{announced_ours, exchanged_ours, front_announced, has_moved, may_announce_front, may_announced, near_announced, noted_announced}
+use Rattle.big_atomic.proofs.Installed.{announced_ours, exchange_unlocked, exchanged_ours, front_announced, has_moved, may_announce_front, may_announced, near_announced, noted_announced}
 use Rattle.hazard_claims.specs.declared.claims.Claim.TheVariants.{Own}
 use Rattle.big_atomic.proofs.installs.install.Goals as goal
 
 pub announce-requires-clause-may : goal.announce-requires-clause-may
-announce-requires-clause-may c = may_announce_front c.args.node c.args.call c.args.seat.now c.requires.front
+announce-requires-clause-may c = may_announce_front c.args.node c.args.call c.args.seat.now c.requires.front c.requires.unlocked
 
 -- what the exchange asks for stays
 pub exchange-answer-requires-clause-ours : goal.exchange-answer-requires-clause-ours
@@ -26,6 +26,8 @@ pub release-requires : goal.release-requires
 release-requires c = record {
   ours = exchanged_ours c.args.cell c.args.seen c.args.node c.args.call c.announce.new.seat c.exchange-answer.new.seat c.exchange-answer.result c.exchange-answer.ensures.exchanged
       (announced_ours c.args.node c.args.seat.now c.announce.new.seat c.announce.ensures.announced c.requires.ours);
+  unlocked = λ _. exchange_unlocked c.args.cell c.args.seen c.args.node c.args.call c.exchange-answer.result c.args.seat.now c.announce.new.seat c.exchange-answer.new.seat
+      c.announce.ensures.announced c.exchange-answer.ensures.exchanged;
 }
 
 -- no held node is announced any more

@@ -1,4 +1,4 @@
-use Rattle.cache_hash.proofs.Making.{gave_up_turn, has_front, lost_turn, made, make_back, make_free, make_place, own_front, own_installed}
+use Rattle.cache_hash.proofs.Making.{copied_unlocked, gave_up_turn, has_front, lost_turn, made, make_back, make_free, make_place, own_front, own_installed}
 use Rattle.cache_hash.proofs.changes.install_change.Goals as goal
 
 pub copy_front-requires-clause-back : goal.copy_front-requires-clause-back
@@ -24,6 +24,9 @@ install-requires-clause-found c = (has_front c.requires.past.1 c.in-Ready.ensure
 
 pub install-requires-clause-noted : goal.install-requires-clause-noted
 install-requires-clause-noted c = rw c.call_of-call.ensures (has_front c.requires.past.1 c.in-Ready.ensures.copied c.in-Ready.ensures.law).prepared.noted
+
+pub install-requires-clause-unlocked : goal.install-requires-clause-unlocked
+install-requires-clause-unlocked c = copied_unlocked (has_front c.requires.past.1 c.in-Ready.ensures.copied c.in-Ready.ensures.law)
 
 pub returns-in_default-install : goal.returns-in_default-install
 returns-in_default-install c = record {
