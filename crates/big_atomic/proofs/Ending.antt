@@ -95,6 +95,11 @@ ends_then {a} {b} {u} {v} {w} p q =
       hold = q.hold ∙ p.hold;
     }
 
+-- the seat stays of its object where Walk is cleared
+pub walk_ours : {shared : ObjectData} (u w : SeatData) → ClearsWalk u w → IsOf shared u → IsOf shared w
+walk_ours {shared} u w (inl q) of = subst (IsOf shared) (sym q.0) of
+walk_ours u w (inr q) of = record { object = ap (λ (z : SeatData). z.object) q ∙ of.object; plan = ap (λ (z : SeatData). z.view.plan) q ∙ of.plan }
+
 -- Walk, where its word isn't 0
 pub record EndsWalk (u w : SeatData) : Type 0 where
   pub clears : List Counted

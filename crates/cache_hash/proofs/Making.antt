@@ -2,7 +2,7 @@
 use Rattle.std.proofs.Common.{◌≡◌, ◌≢◌, ◌∙◌, ℕ, ◌+◌, ◌*◌, ◌/◌, ◌<◌, ◌≤◌, suc, Bool, true, false, ne_eqb, List, [], ◌∷◌, ◌++◌, length, take, drop, refl, sym, ap, subst, arith, ◌⊎◌, inl, inr}
 use Rattle.std.proofs.lemmas.Bool.{cond-false, eqb-true, false≢true}
 use Rattle.std.proofs.lemmas.List.{take-append-drop, take_all}
-use Rattle.big_atomic.proofs.Answered.{HasAnswered}
+use Rattle.big_atomic.proofs.Answered.{HasAnswered, goes_of}
 use Rattle.big_atomic.proofs.Goings.{goes_then, looked_then}
 use Rattle.big_atomic.proofs.Installed.{EndsChange, LostInstall, change_ready, change_records, change_scanned, change_tried, lost_install, no_lock, won_change}
 use Rattle.big_atomic.proofs.Paid.{exchanges-append, lost-append, scan_loads-append}
@@ -12,7 +12,7 @@ use Rattle.big_atomic.specs.Ready.{IsReady}
 use Rattle.big_atomic.specs.Turns.{exchanges, lost_steps, scan_loads}
 use Rattle.cache_hash.proofs.Fronted.{GaveUp, HasPrepared, MayPrepare, gave_up, insert_prepared, remove_prepared, replace_prepared}
 use Rattle.cache_hash.proofs.Keyed.{changes_in, exchange_tries, holds_by, never_full, on_key, replies_by, there_for}
-use Rattle.cache_hash.proofs.Progress.{Onward, going_on, wants_more}
+use Rattle.cache_hash.proofs.Progress.{Onward, going_of, going_on, wants_more}
 use Rattle.cache_hash.specs.Asking.{HasEnded, IsEditOf, IsInsert, NeverChanges, call_for, plain_reply, would_change}
 use Rattle.cache_hash.specs.Calls.{WantsNodes, value_at}
 use Rattle.cache_hash.specs.Changing.{Begins, Changing, HasTried, MayMake, Scans}
@@ -44,7 +44,7 @@ use Rattle.step_rules.specs.Claims.{BACK, HOLD, On, OWN}
 use Rattle.step_rules.specs.History.{GoesOn, IsHistory, cell_of, key_cell}
 use Rattle.step_rules.specs.Lawful.{is_full}
 use Rattle.step_rules.specs.Records.{edit_of, is_change_in, need as need_of, out, pair, put, records_at, records_of, value_in}
-use Rattle.step_rules.specs.SeatData.{IsSeat, ObjectData, SeatData}
+use Rattle.step_rules.specs.SeatData.{IsOf, IsSeat, ObjectData, SeatData}
 use Rattle.step_rules.specs.Views.{claim_of, claimed_records}
 use Rattle.step_rules.specs.declared.plan.Plan.{Plan}
 use Rattle.step_rules.specs.declared.view.Claim.{Claim}
@@ -188,6 +188,9 @@ module _ {shared : ObjectData} {key : KeyWords} {change : Change} {cell word : �
     (h : HasFront shared key change cell word due scanned node before mid copied) where
   abbrev j : Changing shared key change cell scanned before mid
   j = h.may.going
+
+  pub copied_ours : IsOf shared copied
+  copied_ours = goes_of h.prepared.goes (going_of j)
 
   -- no change of the seat has a lock
   pub copied_unlocked : copied.view.writer.stage ≢ Locked

@@ -1,4 +1,6 @@
-use Rattle.cache_hash.proofs.Making.{copied_unlocked, gave_up_turn, has_front, lost_turn, made, make_back, make_free, make_place, own_front, own_installed}
+use Rattle.big_atomic.proofs.Ending.{walk_ours}
+use Rattle.big_atomic.proofs.Installed.{installed_ours}
+use Rattle.cache_hash.proofs.Making.{copied_ours, copied_unlocked, gave_up_turn, has_front, lost_turn, made, make_back, make_free, make_place, own_front, own_installed}
 use Rattle.cache_hash.proofs.changes.install_change.Goals as goal
 
 pub copy_front-requires-clause-back : goal.copy_front-requires-clause-back
@@ -32,6 +34,15 @@ pub returns-in_default-install : goal.returns-in_default-install
 returns-in_default-install c = record {
   turned = λ before m. lost_turn (has_front m c.in-Ready.ensures.copied c.in-Ready.ensures.law) c.in_default-install.ensures.installs c.in_default-install.ensures.law;
 }
+
+pub clear_walk-requires : goal.clear_walk-requires
+clear_walk-requires c = record {
+  ours = installed_ours c.in-Installed.ensures.installs (copied_ours (has_front c.requires.past.1 c.in-Ready.ensures.copied c.in-Ready.ensures.law));
+}
+
+pub release-requires-clause-ours : goal.release-requires-clause-ours
+release-requires-clause-ours c = walk_ours c.install.new.seat c.clear_walk.new.seat c.clear_walk.ensures.cleared
+    (installed_ours c.in-Installed.ensures.installs (copied_ours (has_front c.requires.past.1 c.in-Ready.ensures.copied c.in-Ready.ensures.law)))
 
 pub returns : goal.returns
 returns c = record {
