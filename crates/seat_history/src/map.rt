@@ -43,6 +43,7 @@ pub(crate) fn insert(map: &mut Map, key: KeyWords, val: ValWords) -> Result<Repl
 // Gives a key a value, whether it has one or not.
 pub(crate) fn put(map: &mut Map, key: KeyWords, val: ValWords) -> Result<(), AllocError>
     ensures ok { OnOk result (values_of map.new ≡ set_at (values_of map.old) (key_number key) (Some val)) }
+    ensures err { OnErr result (values_of map.new ≡ values_of map.old) }
 {
     map.insert(key.number(), val)?;
     Ok(())

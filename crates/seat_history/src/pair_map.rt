@@ -1,4 +1,4 @@
-ghost use Rattle.std.specs.Prelude.{◌≡◌, All, IfOk, OnOk, Some, None, ℕ};
+ghost use Rattle.std.specs.Prelude.{◌≡◌, All, IfOk, OnOk, OnErr, Some, None, ℕ};
 ghost use Rattle.seat_history.specs.Contents.{set_at};
 ghost use Rattle.seat_history.specs.Key.{key_number};
 ghost use Rattle.seat_history.specs.Pairs.{ArePairsOf, IsPairInRange};
@@ -28,9 +28,10 @@ impl PairMap {
         }
     }
 
-    /// Gives a key a value.
+    /// Gives a key a value. Where memory runs out, everything stays as it was.
     pub fn insert(&mut self, key: KeyWords, val: ValWords) -> Result<(), NoMemory>
-        ensures { OnOk result (found_in self.new ≡ set_at (found_in self.old) (key_number key) (Some val)) }
+        ensures ok { OnOk result (found_in self.new ≡ set_at (found_in self.old) (key_number key) (Some val)) }
+        ensures err { OnErr result (found_in self.new ≡ found_in self.old) }
     {
         put(&mut self.map, key, val)?;
         Ok(())
