@@ -1,4 +1,4 @@
-use crate::{Gate, MeetGate, OpenGate};
+use crate::{Batches, Gate, MeetGate, OpenGate};
 use std::test::Fail;
 use std::thread::join;
 
@@ -36,5 +36,34 @@ fn others_and_later_turns_meet_nobody(rt: HostRuntime) -> Result<(), Fail> {
     gate.pass(0, 1);
     gate.pass(1, 1);
     assert!(rt; !gate.met());
+    Ok(())
+}
+
+#[test]
+fn each_batch_is_drawn_once(rt: HostRuntime) -> Result<(), Fail> {
+    let (three, mut alone) = Batches::new(rt.alloc(), 3, 1)?;
+    let drawn = [
+        three.next(&mut alone),
+        three.next(&mut alone),
+        three.next(&mut alone),
+        three.next(&mut alone),
+        three.next(&mut alone),
+    ];
+    assert_eq!(rt; drawn, [Some(0), Some(1), Some(2), None, None]);
+
+    let (two, mut first) = Batches::new(rt.alloc(), 2, 2)?;
+    let mut second = two.split(&mut first);
+    let drawn = [
+        two.next(&mut second),
+        two.next(&mut first),
+        two.next(&mut second),
+        two.next(&mut first),
+    ];
+    assert_eq!(rt; drawn, [Some(0), Some(1), None, None]);
+    two.join(&mut first, second);
+    assert_eq!(rt; two.next(&mut first), None);
+
+    let (none, mut alone) = Batches::new(rt.alloc(), 0, 1)?;
+    assert_eq!(rt; none.next(&mut alone), None);
     Ok(())
 }

@@ -1,0 +1,4 @@
+pub mod Keeps
+pub mod Numbers
+pub mod Shares
+pub mod Totals

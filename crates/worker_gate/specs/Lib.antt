@@ -1,0 +1,5 @@
+pub mod Numbers
+pub mod Plays
+pub mod Rule
+pub mod Seats
+pub mod Views
