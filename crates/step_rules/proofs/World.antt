@@ -5,6 +5,7 @@ pub mod Exchanging
 pub mod Frames
 pub mod Handing
 pub mod Opens
+pub mod Pinned
 pub mod Registers
 pub mod Silent
 pub mod Sizes

@@ -68,6 +68,8 @@ pub record SeatClaims (p : Plan) (W : World) (s : ℕ) (numbers : List ℕ) (lea
   -- while the cell's backup names the node, the history has no entry on the cell since, and the cell's chain is the claim's pages
   pub calm : (c n : ℕ) (x : Claim) → get_elem? claims c ≡ some x → Tells c → On x n → W.backup x.cell / 2 ≡ n → NoneOn p x.cell (drop x.at W.log)
   pub pages : (c n : ℕ) (x : Claim) → get_elem? claims c ≡ some x → Tells c → On x n → W.backup x.cell / 2 ≡ n → W.chain x.cell ≡ x.pages
+  -- and while the history has no entry on the cell since, the backup names the node
+  pub stays : (c n : ℕ) (x : Claim) → get_elem? claims c ≡ some x → Tells c → On x n → NoneOn p x.cell (drop x.at W.log) → W.backup x.cell / 2 ≡ n
 
 -- a claim that stands is in its word, which is one of the claim words
 pub record Guards (p : Plan) (word guard : ℕ → ℕ) : Type 0 where

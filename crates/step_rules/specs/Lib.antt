@@ -26,6 +26,7 @@ pub mod Steps
 pub mod Stock
 pub mod Stood
 pub mod Trail
+pub mod Untouched
 pub mod Versions
 pub mod Views
 pub mod World

@@ -4,6 +4,7 @@ use mathlib.Core.Option.{some}
 use lib.ListN.{get_elem?}
 use Rattle.seat_history.specs.declared.entry.Entry.{Entry}
 use Rattle.step_rules.specs.History.{NoneOn}
+use Rattle.step_rules.specs.Untouched.{IsUntouched}
 use Rattle.step_rules.specs.World.{World}
 use Rattle.step_rules.specs.declared.plan.Plan.{Plan}
 use Rattle.step_rules.specs.declared.view.Counted.{Counted}
@@ -33,6 +34,8 @@ pub record IsVersioned (p : Plan) (version : ℕ → ℕ) (inline : ℕ → List
   -- where it has none since the version's, the inline words are the node's; and so it is where the backup is unmarked
   pub copied : IsEven (version k) → NoneOn p k (drop (source k (version k)) log) → inline k ≡ node (backup k / 2)
   pub settled : IsEven (backup k) → IsEven (version k) × NoneOn p k (drop (source k (version k)) log)
+  -- a cell without an entry is as it was at the start
+  pub untouched : NoneOn p k log → IsUntouched p k (version k) (backup k) (inline k) (node k)
 
 abbrev pub VersionedAt : Plan → World → ℕ → Type 0
 VersionedAt p W k = IsVersioned p W.version W.inline W.locker W.source W.node W.backup W.log k

@@ -6,6 +6,7 @@ ghost use Rattle.step_rules.specs.Flights.{FlightsAgree, LaterFound, ReadsAgree,
 ghost use Rattle.step_rules.specs.History.{IsHistory};
 ghost use Rattle.step_rules.specs.Order.{AreRecordsOf, NeedsByOrder};
 ghost use Rattle.step_rules.specs.Records.{records_at};
+ghost use Rattle.step_rules.specs.Starts.{StartIsPinned, UntouchedAgree};
 ghost use Rattle.step_rules.specs.declared.plan.Plan.{Plan};
 
 /// A bucket's records after a history are its pairs, the one whose last insert stands latest first.
@@ -27,6 +28,19 @@ pub fn need_is_by_order()
 /// with an odd version is marked, and just one seat has locked it.
 pub fn versions_agree()
     ensures { VersionsAgree }
+{}
+
+/// A table whose one seat is the first meets the rule with the words of the start alone: `build` hands it
+/// no others.
+pub fn start_is_pinned()
+    ensures { StartIsPinned }
+{}
+
+/// A cell that the history has no entry on has the words of the start: its version is 0, its backup names
+/// the node with its own number, unmarked, and the words there and inline are zeros, but that a bucket's
+/// next word is `END`.
+pub fn untouched_agree()
+    ensures { UntouchedAgree }
 {}
 
 /// No version that a seat found is above the cell's. A change in flight is the last one of its cell while

@@ -1,7 +1,7 @@
-ghost use Rattle.std.specs.Prelude.{◌≡◌, ◌≤◌, ◌<◌, ◌+◌, ◌^◌, MatchResult};
+ghost use Rattle.std.specs.Prelude.{◌≡◌, ◌≤◌, ◌<◌, ◌+◌, ◌-◌, ◌^◌, MatchResult};
 ghost use Rattle.seat_history.specs.declared.words.TheConstants.{WIDTH};
 ghost use Rattle.step_rules.specs.Layout.{IsPlan, cells, nodes, words};
-ghost use Rattle.step_rules.specs.declared.layout.TheConstants.{CELL_WIDTH, CLAIMS, MOST_NODES, NODE_WIDTH};
+ghost use Rattle.step_rules.specs.declared.layout.TheConstants.{CELL_WIDTH, CLAIMS, END, MOST_NODES, NODE_WIDTH};
 
 use crate::plan::Plan;
 use seat_history::WIDTH;
@@ -45,7 +45,7 @@ impl Layout {
     pub fn of(plan: &Plan) -> Result<Layout, TooLarge>
         requires plan { IsPlan plan.now }
         ensures fits { MatchResult result (λ _. nodes plan.now ≤ 2 ^ 24) (λ _. 2 ^ 24 < nodes plan.now) }
-        ensures numbers { (CLAIMS ≡ 4) × (NODE_WIDTH ≡ WIDTH + 1) × (CELL_WIDTH ≡ WIDTH + 3) × (MOST_NODES ≡ 2 ^ 24) }
+        ensures numbers { (CLAIMS ≡ 4) × (NODE_WIDTH ≡ WIDTH + 1) × (CELL_WIDTH ≡ WIDTH + 3) × (MOST_NODES ≡ 2 ^ 24) × (END ≡ 2 ^ 64 - 1) }
         ensures layout { MatchResult result (λ layout. layout ≡ record { cells = cells plan.now; nodes = nodes plan.now; words = words plan.now }) (λ refused. refused.nodes ≡ nodes plan.now) }
     {
         let cells = plan.registers + plan.buckets;

@@ -2,7 +2,8 @@ ghost use Rattle.std.specs.Prelude.{◌≡◌, ◌+◌, ◌<◌, ◌≤◌, ◌*
 ghost use Rattle.step_rules.specs.Layout.{IsPlan, cells, cells_at, nodes, words};
 ghost use Rattle.step_rules.specs.SeatData.{IsSeat};
 ghost use Rattle.step_rules.specs.Sound.{Sound};
-ghost use Rattle.step_rules.specs.Starts.{Builds, IsBuilt, IsStart, first_next};
+ghost use Rattle.step_rules.specs.Starts.{Builds, IsBuilt, IsStart};
+ghost use Rattle.step_rules.specs.Untouched.{first_next};
 ghost use Rattle.step_rules.specs.Views.{count_up, starting};
 ghost use Rattle.step_rules.specs.declared.layout.TheConstants.{CLAIMS, MOST_NODES};
 
@@ -71,7 +72,7 @@ fn with_room(alloc: Global, plan: &Plan, layout: &Layout) -> Result<(Shared, Sea
 }
 
 // The table copies the words: no constructor of its crate takes a vector over. They go before the
-// lists are reserved.
+// lists are reserved. The rule is met by no other words at the start (`laws::start_is_pinned`).
 fn first_table(
     alloc: Global,
     plan: &Plan,

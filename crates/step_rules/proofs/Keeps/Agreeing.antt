@@ -8,7 +8,8 @@ use Rattle.step_rules.specs.Flights.{FlightAgrees, IsLater, VersionAgrees}
 use Rattle.step_rules.specs.History.{NoneOn}
 use Rattle.step_rules.specs.Layout.{cells}
 use Rattle.step_rules.specs.Readers.{SeatReader}
-use Rattle.step_rules.specs.Rule.{HoldsAt, node_words, inline_words, version_word, world_of}
+use Rattle.step_rules.specs.Rule.{HoldsAt, backup_word, node_words, inline_words, version_word, world_of}
+use Rattle.step_rules.specs.Untouched.{IsUntouched}
 use Rattle.step_rules.specs.Versions.{FoundVersion, IsEven, IsOdd}
 use Rattle.step_rules.specs.Views.{claim_of}
 use Rattle.step_rules.specs.World.{Unwritten, World}
@@ -48,6 +49,9 @@ module _ (p : Plan) (ws : List ℕ) (vs : List View) (U : Unwritten) (h : HoldsA
     where
       found_at : (s : ℕ) → s < length vs → (v : View) × (get_elem? vs s ≡ some v)
       found_at s low = there vs s low
+
+  pub untouched_agrees : (k : ℕ) → k < cells p → NoneOn p k U.log → IsUntouched p k (version_word p ws k) (backup_word p ws k) (inline_words p ws k) (node_words p ws k)
+  untouched_agrees k lt = (h.versions k lt).untouched
 
   pub flight_agrees : (s : ℕ) (v : View) → get_elem? vs s ≡ some v → FlightAgrees p ws U.log v
   flight_agrees s v at = let ok = h.seats s v at in let w = v.writer in record {

@@ -41,6 +41,7 @@ module _ (m : Moment) (version : ℕ → ℕ) (inline : ℕ → List ℕ) (locke
     kept = k.kept;
     calm = k.calm;
     pages = k.pages;
+    stays = k.stays;
   }
 
   beside_leaves : (s : ℕ) (u : View) → LeavesLocks s (sites (world m)) (sites beside) → Leaves m.view.plan s u.numbers (world m) beside []
@@ -76,6 +77,8 @@ module _ (m : Moment) (version : ℕ → ℕ) (inline : ℕ → List ℕ) (locke
         passed = λ u even low none. before.passed u even (omega arith) (subst (λ a. NoneOn p k (drop a log)) (same_source u) none);
         copied = λ even none. same_inline ∙ before.copied (omega arith) (subst (λ a. NoneOn p k (drop a log)) now none);
         settled = λ even. let b = before.settled even in let is = b.0 in (omega arith, subst (λ a. NoneOn p k (drop a log)) (sym now) b.1);
+        untouched = λ none. let b = before.untouched none in
+            record { version_is = same_version ∙ b.version_is; backup_is = b.backup_is; inline_are = same_inline ∙ b.inline_are; node_are = b.node_are };
       }
 
   -- what such a step shows, after which the words are these and the change in flight this

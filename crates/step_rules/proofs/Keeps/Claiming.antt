@@ -36,7 +36,7 @@ use Rattle.step_rules.proofs.World.Frames.{backup_else, backup_is, claim_else, c
 use Rattle.step_rules.proofs.Order.Fronts.{chained_once}
 use Rattle.step_rules.proofs.Rely.Moments.{Made, Moment, load_owed, moment, seat, store_owed, world}
 use Rattle.step_rules.proofs.Ties.Owns.{words_at}
-use Rattle.step_rules.proofs.Rely.Seeing.{CellNode, cell_node, seeing, sees, sees_moved, sees_seat, sees_told}
+use Rattle.step_rules.proofs.Rely.Seeing.{CellNode, cell_node, seeing, sees, sees_moved, sees_recent, sees_seat, sees_told}
 use Rattle.step_rules.proofs.Numbers.Sets.{at_has, has_first}
 use Rattle.step_rules.proofs.Line.Trails.{goes_on_same, trail_step}
 
@@ -105,6 +105,7 @@ announced_may p W id c n v may o = announced_either c n v (MayBecome p W id c v.
     (λ tells. absurd (own_silent c e tells))
     (λ t other. (e, let q : Own id ≡ Own t = sym mine ∙ other in cc))
     (λ t gone. absurd (let q : Own id ≡ Retired t = sym mine ∙ gone in cc))
+    (λ tells. absurd (own_silent c e tells))
     (λ tells. absurd (own_silent c e tells))
     (λ tells. absurd (own_silent c e tells)))
     (silent_may p W id c v.seen (n + 1))
@@ -198,6 +199,7 @@ module _ (m : Moment) (c k y : ℕ) (inside : k < cells m.view.plan) (tells : Te
       (λ t gone. absurd (let q : Live k ≡ Retired t = sym node.class ∙ gone in cc))
       (λ _. subst (NoneOn p k) (sym (drop-length log)) tt)
       (λ _. refl)
+      (λ _. refl)
 
   pub rechecked_made : Made m m.ws rechecked_view
   rechecked_made = stands_then m c k y rechecked_claim inside (tells_inside c tells) (tells_else c tells) may (named ∙ ap (λ n. n + 1) (sym same))
@@ -210,6 +212,7 @@ module _ (m : Moment) (c k y : ℕ) (inside : k < cells m.view.plan) (tells : Te
     after = refl;
     rest = o.seen.rest;
     seen = o.seen.whole;
+    recent = sees_recent m (Recheck c k y) k inside;
     claim = subst (λ (z : Claim). IsClaim p log z (x / 2)) (sym (get_or-set_same m.view.claims c rechecked_claim (silent 0) (omega arith))) is_claim;
     moved = sees_moved m (Recheck c k y) k inside;
   }

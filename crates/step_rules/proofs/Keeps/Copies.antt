@@ -8,6 +8,7 @@ use Rattle.atomic_table.specs.Table.{step, Allows}
 use Rattle.seat_history.proofs.Changed.{set_at_here}
 use Rattle.seat_history.specs.Contents.{set_at}
 use Rattle.step_rules.specs.Claims.{OWN}
+use Rattle.step_rules.specs.History.{NoneOn}
 use Rattle.step_rules.specs.Kinds.Versions.{MayCopy}
 use Rattle.step_rules.specs.Layout.{cells, inline_at}
 use Rattle.step_rules.specs.Plays.{Mine, copied}
@@ -25,6 +26,7 @@ use Rattle.step_rules.specs.declared.view.Writer.{Writer}
 use Rattle.step_rules.proofs.Keeps.Beside.{beside, beside_else, beside_made}
 use Rattle.step_rules.proofs.Numbers.Places.{at_there, take_to}
 use Rattle.step_rules.proofs.Rely.Advance.{claim_found}
+use Rattle.step_rules.proofs.Rely.Flights.{flight_since}
 use Rattle.step_rules.proofs.Rely.Moments.{Made, Moment, moment, seat, set_found, store_owed, world}
 use Rattle.step_rules.proofs.Rely.Writers.{locked_flies}
 use Rattle.step_rules.proofs.World.Frames.{inline_else, inline_here, inline_keeps_version, inline_store, inline_wide, one_inline, set_at_else}
@@ -136,6 +138,7 @@ module _ (m : Moment) {k j x : ℕ} (may : MayCopy k j x m.view) where
         passed = before.passed;
         copied = λ even. absurd (version_odd i same even);
         settled = before.settled;
+        untouched = λ none. absurd (flight_since o (locked_flies w may.locked) 0 (omega arith) (subst (λ a. NoneOn p a W.log) (same ∙ sym may.cell) none));
       })
       (λ apart. beside_else m W.version inline' W.locker W.source i lt refl (set_at_else W.inline k i stored apart) refl (λ u. refl))
       (cases_eq i k)

@@ -374,6 +374,7 @@ module _ (m : Moment) {k x n : ℕ} {call : Call} (may : MayExchange k x n call 
         passed = passed;
         copied = λ _ still. absurd ((shorter still (before.dated (W.version j))).1.0 (may.on ∙ sym same));
         settled = λ even. absurd (let odd = ap W'.backup same ∙ backup_new in omega arith);
+        untouched = λ none. absurd ((none_on_parts p j log (e ∷ []) none).1.0 (may.on ∙ sym same));
       })
       (λ ne. let stays = set_at_else W.backup k j (2 * n + 1) ne in record {
         locked = before.locked;
@@ -385,6 +386,8 @@ module _ (m : Moment) {k x n : ℕ} {call : Call} (may : MayExchange k x n call 
           subst (NoneOn p j) (sym (drop-append-le (W.source j (W.version j)) log (e ∷ []) (before.dated (W.version j))))
               (none_on-append p j (drop (W.source j (W.version j)) log) (e ∷ []) was.1 (exchange.there j ne)),
         );
+        untouched = λ none. let u = before.untouched (none_on_parts p j log (e ∷ []) none).0 in
+            record { version_is = u.version_is; backup_is = stays ∙ u.backup_is; inline_are = u.inline_are; node_are = u.node_are };
       })
       (cases_eq j k)
     where
@@ -441,6 +444,7 @@ module _ (m : Moment) {k x n : ℕ} {call : Call} (may : MayExchange k x n call 
     after = refl;
     rest = o.seen.rest;
     seen = o.seen.whole;
+    recent = λ none. let u = (m.rule.versions k inside).untouched none in sym hit ∙ u.backup_is;
     calm = λ y f. subst (λ (q : Claim). NoneOn p k (drop q.at log)) (some-injective may.back y (sym may.claimed ∙ f)) calm;
   }
 

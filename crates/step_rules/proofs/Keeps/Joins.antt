@@ -240,6 +240,7 @@ module _ (m : Moment) (other : ℕ) (w : View) (at_other : get_elem? m.vs other 
     kept = k.kept;
     calm = k.calm;
     pages = k.pages;
+    stays = k.stays;
   }
 
   joined_scan : SeatScan p W.guard v.scan (v.retired ++ w.retired)

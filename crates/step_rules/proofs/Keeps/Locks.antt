@@ -193,6 +193,7 @@ module _ (m : Moment) {k u : ℕ} (may : MayLock k u m.view) (hit : version_word
         passed = λ x even low still. ⊎_elim (λ last. passes j x same last still) (λ ne. before.passed x even (omega arith) still) (cases_eq x u);
         copied = λ even. absurd (omega arith);
         settled = λ even. absurd (passes j (W.version j) same now (before.settled even).1);
+        untouched = λ none. absurd (flight_since o may.flies 0 (omega arith) (subst (λ i. NoneOn p i W.log) (same ∙ sym may.cell) none));
       })
       (λ apart. beside_else m version' W.inline locker' W.source j lt (set_at_else W.version k j (u + 1) apart) refl (set_at_else W.locker k j (m.id + 1) apart) (λ x. refl))
       (cases_eq j k)

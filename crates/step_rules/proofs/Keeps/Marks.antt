@@ -26,7 +26,7 @@ use Rattle.step_rules.specs.declared.view.View.{View}
 use Rattle.step_rules.specs.declared.view.Writer.{Writer}
 use Rattle.step_rules.proofs.Keeps.Exchanges.{backup_low, backup_one, claim_apart}
 use Rattle.step_rules.proofs.Rely.Advance.{stable}
-use Rattle.step_rules.proofs.Rely.Flights.{released_is}
+use Rattle.step_rules.proofs.Rely.Flights.{flight_since, released_is}
 use Rattle.step_rules.proofs.Rely.Moments.{Made, Moment, advance, load_owed, moment, seat, store_owed, world}
 use Rattle.step_rules.proofs.Rely.Seeing.{seeing, sees, sees_seat, sees_told}
 use Rattle.step_rules.proofs.Rely.Writers.{locks_stay, released_flies}
@@ -135,6 +135,11 @@ module _ (m : Moment) {k n : ℕ} (may : MayUnmark k n m.view) (hit : backup_wor
           subst (λ (z : ℕ × ℕ). NoneOn p z.0 (drop z.1 W.log)) (λ i. (sym same i, sym (λ t. W.source (same t) (now t)) i)) done.1,
         ))
         (λ apart. let stays = set_at_else W.backup k j (2 * n) apart in before.settled (omega arith))
+        (cases_eq j k);
+    untouched = λ none. ⊎_elim
+        (λ same. absurd (flight_since o flies 0 (omega arith) (subst (λ i. NoneOn p i W.log) (same ∙ sym may.cell) none)))
+        (λ apart. let u = before.untouched none in
+        record { version_is = u.version_is; backup_is = set_at_else W.backup k j (2 * n) apart ∙ u.backup_is; inline_are = u.inline_are; node_are = u.node_are })
         (cases_eq j k);
   }
 

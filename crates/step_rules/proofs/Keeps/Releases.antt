@@ -27,6 +27,7 @@ use Rattle.step_rules.specs.declared.view.Writer.{Writer}
 use Rattle.step_rules.proofs.Keeps.Beside.{beside, beside_else, beside_made}
 use Rattle.step_rules.proofs.Numbers.Places.{at_below}
 use Rattle.step_rules.proofs.Rely.Advance.{claim_found}
+use Rattle.step_rules.proofs.Rely.Flights.{flight_since}
 use Rattle.step_rules.proofs.Rely.Moments.{Made, Moment, moment, seat, store_owed, world}
 use Rattle.step_rules.proofs.Rely.Writers.{locked_flies}
 use Rattle.step_rules.proofs.World.Frames.{inline_wide, one_version, set_at_else, version_else, version_here, version_keeps_inline, version_store}
@@ -168,6 +169,7 @@ module _ (m : Moment) {k u : ℕ} (may : MayRelease k u m.view) where
             subst (λ (z : ℕ × ℕ). NoneOn p z.0 (drop z.1 W.log)) (λ i. ((same ∙ sym may.cell) i, ((λ t. source' (same t) (then t)) ∙ source_new) i)) still in
             subst (λ i. W.inline i ≡ W.node (W.backup i / 2)) (may.cell ∙ sym same) (image ∙ ap W.node (sym (o.writer.stays flies own)));
         settled = λ even'. absurd (let was = (before.settled even').0 in omega arith);
+        untouched = λ none. absurd (flight_since o flies 0 (omega arith) (subst (λ i. NoneOn p i W.log) (same ∙ sym may.cell) none));
       })
       (λ apart. beside_else m version' W.inline locker' source' j lt (set_at_else W.version k j (u + 2) apart) refl (set_at_else W.locker k j 0 apart)
       (λ x. ap (λ f. f x) (set_at_else W.source k j (set_at (W.source k) (u + 2) (w.change + 1)) apart)))

@@ -24,7 +24,7 @@ use Rattle.step_rules.specs.Rule.{Holds, node_words, world_of}
 use Rattle.step_rules.specs.Seats.{Leaves, SeatOk}
 use Rattle.step_rules.specs.Stock.{IsStock}
 use Rattle.step_rules.specs.Views.{counted, stored_in, stored_view}
-use Rattle.step_rules.specs.World.{Own, Once, World, has, nodes_of}
+use Rattle.step_rules.specs.World.{Own, Once, World, has, nodes_of, Live}
 use Rattle.step_rules.specs.Writers.{sites}
 use Rattle.step_rules.specs.declared.layout.TheConstants.{NODE_WIDTH}
 use Rattle.step_rules.specs.declared.plan.Plan.{Plan}
@@ -169,6 +169,13 @@ module _ (m : Moment) (n j x : ℕ) (mine : m.unwritten.class n ≡ Own m.id) (i
       passed = b.passed;
       copied = λ even still. let live = (cell_node p W k (m.rule.cells.cell k lt)).class in b.copied even still ∙ sym (node_stays (W.backup k / 2) (λ own. cc));
       settled = b.settled;
+      untouched = λ none. let u = b.untouched none in record {
+        version_is = u.version_is;
+        backup_is = u.backup_is;
+        inline_are = u.inline_are;
+        node_are = node_stays k (λ own. let live = (cell_node p W k (m.rule.cells.cell k lt)).class in let named : W.backup k / 2 ≡ k = omega (arith, u.backup_is) in
+            let both : Own m.id ≡ Live k = sym own ∙ (ap W.class (sym named) ∙ live) in cc) ∙ u.node_are;
+      };
     };
     lockers = m.rule.lockers;
     budget = le_refl (length W.log + m.view.changes);

@@ -28,7 +28,7 @@ use Rattle.step_rules.proofs.Keeps.Claiming.{stands_then}
 use Rattle.step_rules.proofs.Rely.Moments.{Made, Moment, load_owed, moment, seat, world}
 use Rattle.step_rules.proofs.Ties.Owns.{words_at}
 use Rattle.step_rules.proofs.Numbers.Places.{there_at}
-use Rattle.step_rules.proofs.Rely.Seeing.{seeing, sees, sees_falls, sees_told}
+use Rattle.step_rules.proofs.Rely.Seeing.{seeing, sees, sees_falls, sees_recent, sees_told}
 use Rattle.step_rules.proofs.Numbers.Sets.{at_has}
 
 pub walk_tells : Tells WALK → ⊥
@@ -90,6 +90,7 @@ module _ (m : Moment) (k y n : ℕ) (inside : k < cells m.view.plan) (may_walk :
       (λ t gone. absurd (let q : Live k ≡ Retired t = sym class_is ∙ gone in cc))
       (λ tells. absurd (walk_tells tells))
       (λ tells. absurd (walk_tells tells))
+      (λ tells. absurd (walk_tells tells))
 
   pub walk_made : Made m m.ws walking_view
   walk_made = stands_then m WALK k y (walked_claim n k (length log) v) inside (omega arith) (λ e. omega arith) may may_walk.named
@@ -100,6 +101,7 @@ module _ (m : Moment) (k y n : ℕ) (inside : k < cells m.view.plan) (may_walk :
     after = refl;
     rest = seen.rest;
     seen = seen.whole;
+    recent = sees_recent m (Recheck WALK k y) k inside;
     calm = λ b e. subst (λ (z : Claim). NoneOn p k (drop z.at log)) (some-injective may_walk.back b (sym may_walk.claimed ∙ e))
         (subst (λ j. NoneOn p j (drop may_walk.back.at log)) may_walk.cell ((seat m).claims.calm BACK (y / 2) may_walk.back may_walk.claimed (inl refl) may_walk.stands same_back));
     falls = sees_falls m (Recheck WALK k y) k inside;

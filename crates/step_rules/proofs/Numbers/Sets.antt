@@ -120,7 +120,7 @@ pub first_number : (xs ys : List ℕ) → 0 < length xs → get_or (xs ++ ys) 0 
 first_number [] ys lt = absurd (omega arith)
 first_number (x ∷ xs) ys lt = refl
 
-has_count : (m n x : ℕ) → m ≤ x → x < m + n → has (count_up m n) x ≡ true
+pub has_count : (m n x : ℕ) → m ≤ x → x < m + n → has (count_up m n) x ≡ true
 has_count m zero x a b = absurd (omega arith)
 has_count m (suc n) x a b = ⊎_elim (λ e. or_left (eqb m x) (has (count_up (suc m) n) x) (eq-eqb m x e))
     (λ e. or_right (eqb m x) (has (count_up (suc m) n) x) (has_count (suc m) n x (omega arith) (omega arith))) (cases_eq m x)

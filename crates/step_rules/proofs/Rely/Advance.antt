@@ -103,11 +103,16 @@ module _ {p : Plan} {W : World} {s : ℕ} {numbers : List ℕ} {least : ℕ} {se
     kept = λ c n t x at on own. k.kept c n t x at on (leaves.taken least c n t (mine c n x at on) (claim_inside c x at) (guarded c n x at on) own);
     calm = λ c n x at tells on e.
         let f = quiet c n x at tells on e in
-        let longer : drop x.at W'.log ≡ drop x.at W.log ++ more = ap (drop x.at) leaves.log ∙ drop_more seen rest W.log more x.at whole (k.sound.told c n x at tells on).began in
-        subst (NoneOn p x.cell) (sym longer) (none_on-append p x.cell (drop x.at W.log) more (k.calm c n x at tells on (sym (leaves.same x.cell f) ∙ e)) f);
+        subst (NoneOn p x.cell) (sym (longer c n x at tells on)) (none_on-append p x.cell (drop x.at W.log) more (k.calm c n x at tells on (sym (leaves.same x.cell f) ∙ e)) f);
     pages = λ c n x at tells on e. let f = quiet c n x at tells on e in leaves.chain x.cell f ∙ k.pages c n x at tells on (sym (leaves.same x.cell f) ∙ e);
+    stays = λ c n x at tells on none.
+        let parts = none_on_parts p x.cell (drop x.at W.log) more (subst (NoneOn p x.cell) (longer c n x at tells on) none) in
+        leaves.same x.cell parts.1 ∙ k.stays c n x at tells on parts.0;
   }
     where
+      longer : (c n : ℕ) (x : Claim) → get_elem? claims c ≡ some x → Tells c → On x n → drop x.at W'.log ≡ drop x.at W.log ++ more
+      longer c n x at tells on = ap (drop x.at) leaves.log ∙ drop_more seen rest W.log more x.at whole (k.sound.told c n x at tells on).began
+
       mine : (c n : ℕ) (x : Claim) → get_elem? claims c ≡ some x → On x n → has numbers least ≡ true
       mine c n x at on = first (claim_numbered c n x at on)
 
@@ -128,6 +133,7 @@ module _ {p : Plan} {W : World} {s : ℕ} {numbers : List ℕ} {least : ℕ} {se
     kept = λ c n t x at on own. k.kept c n t x at on ((stays c n x at on).1 t own);
     calm = k.calm;
     pages = k.pages;
+    stays = k.stays;
   }
 
 -- what a step of another seat leaves of a seat's change in flight

@@ -79,6 +79,7 @@ claims_more r k = record {
   kept = k.kept;
   calm = k.calm;
   pages = k.pages;
+  stays = k.stays;
 }
 
 -- the claims after the claim c becomes x
@@ -99,6 +100,7 @@ pub record MayBecome (p : Plan) (W : World) (id c : ℕ) (seen : List Entry) (x 
   pub in_use : (n t : ℕ) → On x n → W.class n ≢ Retired t
   pub calm : (n : ℕ) → Tells c → On x n → W.backup x.cell / 2 ≡ n → NoneOn p x.cell (drop x.at W.log)
   pub pages : (n : ℕ) → Tells c → On x n → W.backup x.cell / 2 ≡ n → W.chain x.cell ≡ x.pages
+  pub stays : (n : ℕ) → Tells c → On x n → W.backup x.cell / 2 ≡ n
 
 pub silent_may : (p : Plan) (W : World) (id c : ℕ) (seen : List Entry) (w : ℕ) → MayBecome p W id c seen (silent w)
 silent_may p W id c seen w = record {
@@ -110,14 +112,15 @@ silent_may p W id c seen w = record {
   in_use = λ n t on e. on_silent w n on;
   calm = λ n tells on e. absurd (on_silent w n on);
   pages = λ n tells on e. absurd (on_silent w n on);
+  stays = λ n tells on. absurd (on_silent w n on);
 }
 
 -- a claim on one node, by what holds of the node
 pub standing_may : (p : Plan) (W : World) (id c : ℕ) (seen : List Entry) (n : ℕ) (ws : List ℕ) (k : ℕ) (pages : List Held) (at : ℕ) → n < nodes p → length ws ≡ NODE_WIDTH
     → W.node n ≡ ws
     → (Tells c → IsClaim p seen (standing n ws k pages at) n) → ((t : ℕ) → W.class n ≡ Own t → (c ≡ OWN) × (t ≡ id)) → ((t : ℕ) → W.class n ≢ Retired t)
-    → (Tells c → NoneOn p k (drop at W.log)) → (Tells c → W.chain k ≡ pages) → MayBecome p W id c seen (standing n ws k pages at)
-standing_may p W id c seen n ws k pages at there wide image told kept in_use calm whole = record {
+    → (Tells c → NoneOn p k (drop at W.log)) → (Tells c → W.chain k ≡ pages) → (Tells c → W.backup k / 2 ≡ n) → MayBecome p W id c seen (standing n ws k pages at)
+standing_may p W id c seen n ws k pages at there wide image told kept in_use calm whole names = record {
   named = λ _. (n, record { on = refl; at = refl });
   there = λ m on. (subst (λ i. i < nodes p) (on_standing n m ws k pages at on) there, wide);
   told = λ m tells on. subst (IsClaim p seen (standing n ws k pages at)) (on_standing n m ws k pages at on) (told tells);
@@ -126,6 +129,7 @@ standing_may p W id c seen n ws k pages at there wide image told kept in_use cal
   in_use = λ m t on e. in_use t (ap W.class (on_standing n m ws k pages at on) ∙ e);
   calm = λ m tells on e. calm tells;
   pages = λ m tells on e. whole tells;
+  stays = λ m tells on. names tells ∙ on_standing n m ws k pages at on;
 }
 
 -- the seat id, whose view is v, may have x in its claim word c
@@ -212,6 +216,7 @@ module _ {p : Plan} {W : World} {id : ℕ} {v : View} {c : ℕ} {x : Claim} (t :
     kept = λ d n s. each_claim v.claims c x (λ e y. On y n → W.class n ≡ Own s → (e ≡ OWN) × (s ≡ id)) (t.may.kept n s) (λ e y _. k.kept e n s y) d;
     calm = λ d n. each_claim v.claims c x (λ e y. Tells e → On y n → W.backup y.cell / 2 ≡ n → NoneOn p y.cell (drop y.at W.log)) (t.may.calm n) (λ e y _ at. k.calm e n y at) d;
     pages = λ d n. each_claim v.claims c x (λ e y. Tells e → On y n → W.backup y.cell / 2 ≡ n → W.chain y.cell ≡ y.pages) (t.may.pages n) (λ e y _ at. k.pages e n y at) d;
+    stays = λ d n. each_claim v.claims c x (λ e y. Tells e → On y n → NoneOn p y.cell (drop y.at W.log) → W.backup y.cell / 2 ≡ n) (λ tells on _. t.may.stays n tells on) (λ e y _ at. k.stays e n y at) d;
   }
 
   -- the seat's claim is x then, and nothing else changes that the rule speaks of but the counted steps

@@ -2,14 +2,15 @@
 use Rattle.std.proofs.Common.{◌≡◌, ◌≢◌, ℕ, suc, true, ◌+◌, ◌/◌, ◌<◌, ◌≤◌, [], ◌∷◌, ◌++◌, List, Some, length, drop, take, refl, sym, ap, ◌∙◌, subst}
 use Rattle.std.proofs.Common.{le_refl, append-nil, arith}
 use Rattle.std.proofs.lemmas.List.{take_all}
+use mathlib.Core.Option.{some}
 use lib.ListN.{get_elem?}
 use Rattle.seat_history.specs.Contents.{Contents}
 use Rattle.seat_history.specs.History.{state_at}
 use Rattle.seat_history.specs.declared.entry.Entry.{Entry}
 use Rattle.step_rules.specs.Cells.{IsCell, register_chain}
-use Rattle.step_rules.specs.Claims.{OWN, SeatClaims}
+use Rattle.step_rules.specs.Claims.{OWN, On, SeatClaims, Tells}
 use Rattle.step_rules.specs.History.{NoneBy, NoneOn}
-use Rattle.step_rules.specs.Kinds.Backup.{Looks}
+use Rattle.step_rules.specs.Kinds.Backup.{IsRecent, Looks}
 use Rattle.step_rules.specs.Lawful.{Lawful}
 use Rattle.step_rules.specs.Layout.{cells, nodes}
 use Rattle.step_rules.specs.Looks.{IsLook, LookHolds, SeatLook}
@@ -24,6 +25,7 @@ use Rattle.step_rules.specs.Views.{claim_of, counted, look_at, looked_view, numb
 use Rattle.step_rules.specs.World.{World, Linked, Live, Chained, has, link}
 use Rattle.step_rules.specs.Writers.{SeatWriter, sites}
 use Rattle.step_rules.specs.declared.plan.Plan.{Plan}
+use Rattle.step_rules.specs.declared.view.Claim.{Claim}
 use Rattle.step_rules.specs.declared.view.Held.{Held}
 use Rattle.step_rules.specs.declared.view.Kind.{Kind}
 use Rattle.step_rules.specs.declared.view.Kind.TheVariants.{VersionLoad}
@@ -186,15 +188,26 @@ module _ (m : Moment) (kind : Kind) (k : ℕ) (inside : k < cells m.view.plan) w
   pub sees_falls : (l : Look) → v.look ≡ Some l → l.cell ≡ k → NoneOn p k (drop l.at log) → x ≤ l.word
   sees_falls l e on none = subst (λ j. backup_word p m.ws j ≤ l.word) on (((seat m).look.holds l e).falls (subst (λ j. NoneOn p j (drop l.at log)) (sym on) none))
 
+  -- a cell without an entry has its first word
+  pub sees_recent : IsRecent p k x log
+  sees_recent none = let u = (m.rule.versions k inside).untouched none in u.backup_is
+
+  -- an entry on the cell since a claim on another node of it stands
+  sees_gone : (c n : ℕ) (y : Claim) → get_elem? v.claims c ≡ some y → Tells c → On y n → y.cell ≡ k → x / 2 ≢ n → ¬ NoneOn p k (drop y.at log)
+  sees_gone c n y e tells stands on ne none = ne (ap (λ j. backup_word p m.ws j / 2) (sym on) ∙ (seat m).claims.stays c n y e tells stands (subst (λ j. NoneOn p j (drop y.at log)) (sym on) none))
+
   pub sees_told : Looks kind k x v seeing
   sees_told = let o = seat m in record {
     log = log;
     after = refl;
     rest = o.seen.rest;
     seen = o.seen.whole;
+    others = o.seen.own;
+    recent = sees_recent;
     moved = sees_moved;
     falls = sees_falls;
     calm = λ c n y e tells stands on same. subst (λ j. NoneOn p j (drop y.at log)) on (o.claims.calm c n y e tells stands (ap (λ j. backup_word p m.ws j / 2) on ∙ same));
+    gone = sees_gone;
   }
 
   pub sees : ((j : ℕ) → kind ≢ VersionLoad j) → Made m m.ws seeing

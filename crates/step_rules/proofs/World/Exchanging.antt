@@ -6,7 +6,7 @@ use lib.ListN.{get_elem?}
 use Rattle.atomic_table.proofs.Lists.{at_longer}
 use Rattle.seat_history.specs.declared.entry.Entry.{Entry}
 use Rattle.step_rules.specs.Cells.{CellsAgree, IsCell}
-use Rattle.step_rules.specs.Claims.{ClaimsSound, SeatClaims}
+use Rattle.step_rules.specs.Claims.{ClaimsSound, On, SeatClaims, Tells}
 use Rattle.step_rules.specs.History.{NoneOn}
 use Rattle.step_rules.specs.Kinds.Exchange.{Exchanges}
 use Rattle.step_rules.specs.Layout.{claim_at, nodes}
@@ -19,7 +19,7 @@ use Rattle.step_rules.specs.declared.plan.Plan.{Plan}
 use Rattle.step_rules.specs.declared.view.Claim.{Claim}
 use Rattle.step_rules.specs.declared.view.Held.{Held}
 use Rattle.step_rules.specs.declared.view.View.{View}
-use Rattle.step_rules.proofs.Rely.Advance.{none_other, drop_more, none_on-append, tells_else}
+use Rattle.step_rules.proofs.Rely.Advance.{none_other, drop_more, none_on-append, none_on_parts, tells_else}
 use Rattle.step_rules.proofs.World.Chains.{cell_stays, link-append, head_link, head_has, chained-append, chained_parts, chained_class, chained_move, chained_apart}
 use Rattle.step_rules.proofs.Rely.Claimed.{claims_sound_more}
 use Rattle.step_rules.proofs.Rely.Writers.{locks_stay}
@@ -103,17 +103,25 @@ module _ {p : Plan} {a k : ℕ} {dropped kept fresh : List Held} {more : List En
     image = λ c m y at on. x.node m ∙ o.image c m y at on;
     kept = λ c m t y at on own. o.kept c m t y at on (exchange_taken m t own);
     calm = λ c m y at tells on names.
-        let longer : drop y.at W'.log ≡ drop y.at W.log ++ more = ap (drop y.at) x.log ∙ drop_more seen rest W.log more y.at whole (o.sound.told c m y at tells on).began in
         ⊎_elim
         (λ q. absurd (tells_else c tells (o.kept c m a y at on (sym (ap W.class names) ∙ (ap (λ i. W.class (W'.backup i / 2)) q ∙ exchange_head))).0))
-        (λ q. subst (NoneOn p y.cell) (sym longer)
+        (λ q. subst (NoneOn p y.cell) (sym (longer c m y at tells on))
         (none_on-append p y.cell (drop y.at W.log) more (o.calm c m y at tells on (ap (λ b. b / 2) (sym (x.others y.cell q).0) ∙ names)) (x.there y.cell q)))
         (cases_eq y.cell k);
     pages = λ c m y at tells on names. ⊎_elim
         (λ q. absurd (tells_else c tells (o.kept c m a y at on (sym (ap W.class names) ∙ (ap (λ i. W.class (W'.backup i / 2)) q ∙ exchange_head))).0))
         (λ q. (x.others y.cell q).1 ∙ o.pages c m y at tells on (ap (λ b. b / 2) (sym (x.others y.cell q).0) ∙ names))
         (cases_eq y.cell k);
+    stays = λ c m y at tells on none.
+        let parts = none_on_parts p y.cell (drop y.at W.log) more (subst (NoneOn p y.cell) (longer c m y at tells on) none) in
+        ⊎_elim
+        (λ q. absurd (x.here (subst (λ i. NoneOn p i more) q parts.1)))
+        (λ q. ap (λ b. b / 2) (x.others y.cell q).0 ∙ o.stays c m y at tells on parts.0)
+        (cases_eq y.cell k);
   }
+    where
+      longer : (c m : ℕ) (y : Claim) → get_elem? claims c ≡ some y → Tells c → On y m → drop y.at W'.log ≡ drop y.at W.log ++ more
+      longer c m y at tells on = ap (drop y.at) x.log ∙ drop_more seen rest W.log more y.at whole (o.sound.told c m y at tells on).began
 
   -- the seat's nodes: the fresh ones are no more its own, and the dropped ones are retired
   pub exchange_nodes : (own own' : List Held) (gone gone' : List ℕ) → SeatNodes p W.class W.node a own gone

@@ -20,7 +20,8 @@ use Rattle.step_rules.specs.Rule.{Holds, backup_word, claim_word, inline_words, 
 use Rattle.step_rules.specs.SeatData.{IsFresh}
 use Rattle.step_rules.specs.Seats.{SeatOk}
 use Rattle.step_rules.specs.Sound.{Sound}
-use Rattle.step_rules.specs.Starts.{IsStart, first_next}
+use Rattle.step_rules.specs.Starts.{IsStart}
+use Rattle.step_rules.specs.Untouched.{first_next, first_words}
 use Rattle.step_rules.specs.Views.{count_up, number, starting, zero_node}
 use Rattle.step_rules.specs.World.{Chained, Class, END, Live, Own, Once, has, link, nodes_of, Unwritten}
 use Rattle.step_rules.specs.declared.layout.TheConstants.{CLAIMS, NODE_WIDTH}
@@ -63,22 +64,22 @@ zero_node_at m (suc n) (suc i) h e = let r = zero_node_at (suc m) n i h e in (r.
 
 -- the words of a node at the start
 abbrev first_node : Plan → ℕ → Held
-first_node p n = record { node = n; words = zeros ++ first_next p n ∷ [] }
+first_node p n = record { node = n; words = first_words p n }
 
-node_first : (p : Plan) (ws : List ℕ) (n : ℕ) → IsStart p ws → n < nodes p → node_words p ws n ≡ zeros ++ first_next p n ∷ []
-node_first p ws n start there = ext_get_or 0 (node_words p ws n) (zeros ++ first_next p n ∷ []) (node_wide p ws n start.wide there) word
+node_first : (p : Plan) (ws : List ℕ) (n : ℕ) → IsStart p ws → n < nodes p → node_words p ws n ≡ first_words p n
+node_first p ws n start there = ext_get_or 0 (node_words p ws n) (first_words p n) (node_wide p ws n start.wide there) word
   where
-    word : (j : ℕ) → j < length (node_words p ws n) → get_or (node_words p ws n) j 0 ≡ get_or (zeros ++ first_next p n ∷ []) j 0
+    word : (j : ℕ) → j < length (node_words p ws n) → get_or (node_words p ws n) j 0 ≡ get_or (first_words p n) j 0
     word j lt = let wide = node_wide p ws n start.wide there in ⊎_elim
         (λ (below : j < WIDTH). sym (node_is p ws n j (omega arith)) ∙ (start.node n j there below
         ∙ (sym (get_or_replicate_same WIDTH j 0) ∙ sym (get_or_append_left zeros (first_next p n ∷ []) 0 j below))))
         (λ (le : WIDTH ≤ j). let is : j ≡ WIDTH = omega arith in
         ap (λ i. get_or (node_words p ws n) i 0) is ∙ (sym (node_is p ws n WIDTH (omega arith)) ∙ (start.node_next n there
-        ∙ ap (λ i. get_or (zeros ++ first_next p n ∷ []) i 0) (sym is))))
+        ∙ ap (λ i. get_or (first_words p n) i 0) (sym is))))
         (cases_lt j WIDTH)
 
 -- no cell's node
-plain_next : (p : Plan) (n : ℕ) → cells p ≤ n → first_next p n ≡ 0
+pub plain_next : (p : Plan) (n : ℕ) → cells p ≤ n → first_next p n ≡ 0
 plain_next p n le = ap (λ b. cond (b && not (nat_lt n p.registers)) END 0) (le-ltb n (cells p) le)
 
 register_next : (p : Plan) (k : ℕ) → k < p.registers → first_next p k ≡ 0
@@ -108,8 +109,11 @@ chain_in p k lt = cond-true (ltb k (cells p)) (first_node p k ∷ []) [] (lt-ltb
 half : (k b : ℕ) → b ≡ 2 * k → b / 2 ≡ k
 half k b e = omega arith
 
+backup_first : (p : Plan) (ws : List ℕ) (k : ℕ) → IsStart p ws → k < cells p → backup_word p ws k ≡ 2 * k
+backup_first p ws k start lt = cond-true (ltb k (cells p)) (get_or ws (backup_at p k) 0) 0 (lt-ltb k (cells p) lt) ∙ start.backup k lt
+
 backup_start : (p : Plan) (ws : List ℕ) (k : ℕ) → IsStart p ws → k < cells p → backup_word p ws k / 2 ≡ k
-backup_start p ws k start lt = half k (backup_word p ws k) (cond-true (ltb k (cells p)) (get_or ws (backup_at p k) 0) 0 (lt-ltb k (cells p) lt) ∙ start.backup k lt)
+backup_start p ws k start lt = half k (backup_word p ws k) (backup_first p ws k start lt)
 
 pub cell_there : (p : Plan) (k : ℕ) → k < cells p → k < nodes p
 unfolding nodes
@@ -167,16 +171,16 @@ claim_start p ws w start = ⊎_elim
     (λ e. cond-false (ltb w (CLAIMS * p.seats)) (get_or ws w 0) 0 e)
     (cases_Bool (ltb w (CLAIMS * p.seats)))
 
-inline_first : (p : Plan) (ws : List ℕ) (k : ℕ) → IsStart p ws → k < cells p → inline_words p ws k ≡ zeros ++ first_next p k ∷ []
-inline_first p ws k start lt = ext_get_or 0 (inline_words p ws k) (zeros ++ first_next p k ∷ []) (inline_wide p ws k start.wide lt) word
+inline_first : (p : Plan) (ws : List ℕ) (k : ℕ) → IsStart p ws → k < cells p → inline_words p ws k ≡ first_words p k
+inline_first p ws k start lt = ext_get_or 0 (inline_words p ws k) (first_words p k) (inline_wide p ws k start.wide lt) word
   where
-    word : (j : ℕ) → j < length (inline_words p ws k) → get_or (inline_words p ws k) j 0 ≡ get_or (zeros ++ first_next p k ∷ []) j 0
+    word : (j : ℕ) → j < length (inline_words p ws k) → get_or (inline_words p ws k) j 0 ≡ get_or (first_words p k) j 0
     word j lt' = let wide = inline_wide p ws k start.wide lt in ⊎_elim
         (λ (below : j < WIDTH). sym (inline_is p ws k j lt (omega arith)) ∙ (start.inline k j lt below
         ∙ (sym (get_or_replicate_same WIDTH j 0) ∙ sym (get_or_append_left zeros (first_next p k ∷ []) 0 j below))))
         (λ (le : WIDTH ≤ j). let is : j ≡ WIDTH = omega arith in
         ap (λ i. get_or (inline_words p ws k) i 0) is ∙ (sym (inline_is p ws k WIDTH lt (omega arith)) ∙ (start.inline_next k lt
-        ∙ ap (λ i. get_or (zeros ++ first_next p k ∷ []) i 0) (sym is))))
+        ∙ ap (λ i. get_or (first_words p k) i 0) (sym is))))
         (cases_lt j WIDTH)
 
 version_first : (p : Plan) (ws : List ℕ) (k : ℕ) → IsStart p ws → k < cells p → version_word p ws k ≡ 0
@@ -242,6 +246,12 @@ opens p ws plan start = record {
       passed = λ u is low. absurd (omega arith);
       copied = λ is none. inline_first p ws k start lt ∙ sym (ap (node_words p ws) (backup_start p ws k start lt) ∙ node_first p ws k start (cell_there p k lt));
       settled = λ is. (omega arith, tt);
+      untouched = λ none. record {
+        version_is = even;
+        backup_is = backup_first p ws k start lt;
+        inline_are = inline_first p ws k start lt;
+        node_are = node_first p ws k start (cell_there p k lt);
+      };
     };
     lockers = λ k s e. omega arith;
     budget = omega (arith, mul_comm p.seats p.changes, ap (λ n. p.changes * n) (length-count_up 0 p.seats));

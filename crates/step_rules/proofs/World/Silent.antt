@@ -73,6 +73,7 @@ claims_quiet p W s numbers least seen claims first sound quiet none =
       kept = λ c n t x at on own. absurd (still c n x at on);
       calm = λ c n x at tells on e. absurd (still c n x at on);
       pages = λ c n x at tells on e. absurd (still c n x at on);
+      stays = λ c n x at tells on none. absurd (still c n x at on);
     }
 
 -- and then nothing stands in its claim words

@@ -5,7 +5,7 @@ use lib.ListN.{get_elem?}
 use Rattle.seat_history.specs.declared.entry.Entry.{Entry}
 use Rattle.step_rules.specs.Claims.{OWN, IsClaim, On}
 use Rattle.step_rules.specs.History.{NoneOn}
-use Rattle.step_rules.specs.Kinds.Backup.{Looks}
+use Rattle.step_rules.specs.Kinds.Backup.{IsRecent, Looks}
 use Rattle.step_rules.specs.Layout.{claim_at}
 use Rattle.step_rules.specs.Nodes.{IsNode}
 use Rattle.step_rules.specs.Views.{claim_of, claimed_view, freed_view, is_freed, number, scanned_view}
@@ -33,6 +33,7 @@ pub record Claims (c k x y : ℕ) (v w : View) : Type 0 where
   pub after : w ≡ claimed_view c k x y words pages log v
   pub rest : List Entry
   pub seen : log ≡ v.seen ++ rest
+  pub recent : IsRecent v.plan k y log
   pub claim : IsClaim v.plan log (claim_of c w) (y / 2)
   pub moved : (l : Look) → v.look ≡ Some l → l.cell ≡ k → y / 2 ≢ l.word / 2 → ¬ NoneOn v.plan k (drop l.at log)
 

@@ -5,7 +5,7 @@ use lib.ListN.{get_elem?}
 use Rattle.seat_history.specs.declared.entry.Entry.{Entry}
 use Rattle.step_rules.specs.Claims.{BACK, On, Tells, WALK}
 use Rattle.step_rules.specs.History.{NoneOn}
-use Rattle.step_rules.specs.Kinds.Backup.{Looks}
+use Rattle.step_rules.specs.Kinds.Backup.{IsRecent, Looks}
 use Rattle.step_rules.specs.Views.{claim_of, claimed_pages, walked_view}
 use Rattle.step_rules.specs.World.{has, nodes_of}
 use Rattle.step_rules.specs.declared.view.Claim.{Claim}
@@ -29,6 +29,7 @@ pub record Walks (k y x n : ℕ) (v w : View) : Type 0 where
   pub after : w ≡ walked_view n k y x log v
   pub rest : List Entry
   pub seen : log ≡ v.seen ++ rest
+  pub recent : IsRecent v.plan k x log
   pub calm : (b : Claim) → get_elem? v.claims BACK ≡ some b → NoneOn v.plan k (drop b.at log)
   pub falls : (l : Look) → v.look ≡ Some l → l.cell ≡ k → NoneOn v.plan k (drop l.at log) → x ≤ l.word
 
