@@ -2,6 +2,7 @@ ghost use Rattle.std.specs.Prelude.{◌≡◌, ◌<◌, All, IfOk, OnOk, OnErr};
 ghost use Rattle.seat_history.specs.Object.{blank_object, object_after, reply_in, MayCall, NamesBelow};
 ghost use Rattle.seat_history.specs.Pairs.{ArePairsOf, IsPairInRange};
 ghost use Rattle.seat_history.specs.Plain.{held_of, object_of, register_count};
+ghost use Rattle.seat_history.specs.declared.plain.TheConstants.{CALLERS};
 
 use crate::call::Call;
 use crate::map::{self, Map};
@@ -32,10 +33,11 @@ fn none_held() -> [Option<Rec>; CALLERS]
 
 #[tactic(auto, unfolding(crate::specs::Plain::object_of, crate::specs::Plain::register_count))]
 impl Plain {
-    /// All registers are zeros, the map is empty, and nothing is held.
+    /// All registers are zeros, the map is empty, and nothing is held. An object has up to 64 callers.
     pub fn new(alloc: Global, registers: u32) -> Result<Plain, NoMemory>
         ensures blank { IfOk result (λ plain. object_of plain ≡ blank_object) }
         ensures count { IfOk result (λ plain. register_count plain ≡ registers) }
+        ensures callers { CALLERS ≡ 64 }
     {
         Ok(Plain {
             registers: registers::zeroed(alloc, registers as usize)?,
