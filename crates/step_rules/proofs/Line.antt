@@ -1,6 +1,7 @@
 pub mod Closings
 pub mod Counting
 pub mod Lawfuls
+pub mod Legal
 pub mod Lines
 pub mod Ordering
 pub mod Records

@@ -6,12 +6,13 @@ use lib.ListN.{get_elem?}
 use Rattle.seat_history.specs.Change.{is_change}
 use Rattle.seat_history.specs.Contents.{Contents}
 use Rattle.seat_history.specs.History.{state_at}
+use Rattle.seat_history.specs.Object.{MayCall}
 use Rattle.seat_history.specs.Step.{held_after, reply_to}
 use Rattle.seat_history.specs.declared.call.Call.{Call}
 use Rattle.seat_history.specs.declared.entry.Entry.{Entry}
 use Rattle.seat_history.specs.declared.reply.Reply.{Reply}
 use Rattle.seat_history.specs.declared.reply.Reply.TheVariants.{Full}
-use Rattle.step_rules.specs.History.{entries_by}
+use Rattle.step_rules.specs.History.{IsThere, entries_by}
 use Rattle.step_rules.specs.Records.{need_in}
 use Rattle.step_rules.specs.World.{has}
 use Rattle.step_rules.specs.declared.layout.TheConstants.{CLAIMS}
@@ -49,9 +50,16 @@ abbrev pub IsReply : Plan → ℕ → Contents → List Entry → Option (List �
 IsReply p stock contents log held call (Full need free) = IsFull p stock contents log call need free
 IsReply p stock contents log held call reply = reply_to contents held call ≡ reply
 
+-- a caller that holds this record may make the call: the cell that it names is there; a hold comes with nothing held, and a look and a release
+-- with a record held
+pub record IsLegal (p : Plan) (held : Option (List ℕ)) (call : Call) : Type 0 where
+  pub there : IsThere p call
+  pub may : MayCall held call
+
 -- the stand is right for the history, after the stands before it
 pub record IsRight (p : Plan) (seen : List Entry) (before : List Stand) (s : Stand) : Type 0 where
   pub place : s.place ≤ length seen
+  pub legal : IsLegal p (held_by seen s.by before) s.call
   pub reply : IsReply p s.stock (state_at seen s.place) (take s.place seen) (held_by seen s.by before) s.call s.reply
   pub changes : s.changes ≡ (is_change (state_at seen s.place) s.call && not (is_full s.reply))
   pub entry : s.changes ≡ true → get_elem? seen s.place ≡ some (entry_of s)

@@ -1,10 +1,11 @@
 -- All callers' stands in one line, and the object of one thread called in that order.
-use Rattle.std.specs.Prelude.{◌≡◌, ℕ, ◌<◌, ◌==◌, ◌&&◌, not, zero, suc, List, [], ◌∷◌, ◌++◌, length, filter, ⊤, if◌then◌else◌}
+use Rattle.std.specs.Prelude.{◌≡◌, ℕ, ◌<◌, ◌==◌, ◌&&◌, not, false, zero, suc, List, [], ◌∷◌, ◌++◌, length, filter, ⊤, if◌then◌else◌}
 use Rattle.seat_history.specs.Change.{is_change}
 use Rattle.seat_history.specs.History.{state_at}
-use Rattle.seat_history.specs.Object.{Object, blank_object, object_after}
+use Rattle.seat_history.specs.Object.{MayCall, NamesBelow, Object, blank_object, object_after, reply_in}
 use Rattle.seat_history.specs.declared.entry.Entry.{Entry}
-use Rattle.step_rules.specs.Lawful.{IsReply, entry_of, is_full}
+use Rattle.seat_history.specs.declared.plain.TheConstants.{CALLERS}
+use Rattle.step_rules.specs.Lawful.{IsLegal, IsReply, entry_of, is_full}
 use Rattle.step_rules.specs.declared.plan.Plan.{Plan}
 use Rattle.step_rules.specs.declared.view.Stand.{Stand}
 
@@ -46,13 +47,30 @@ after_stands object (s ∷ r) = after_stands (after_stand object s) r
 abbrev pub log_after : List Entry → Object → Stand → List Entry
 log_after log object s = if is_change object.contents s.call && not (is_full s.reply) then log ++ entry_of s ∷ [] else log
 
--- the object of one thread, called in this order, gives each its reply, and Full comes only where the call would change it; the log has the
--- calls that changed it
+-- the stand's call may be made on the object of one thread, after these changes, and its reply is the object's, or Full where the call would
+-- change it
+pub record IsAnswered (p : Plan) (object : Object) (log : List Entry) (s : Stand) : Type 0 where
+  pub legal : IsLegal p (object.held s.by) s.call
+  pub reply : IsReply p s.stock object.contents log (object.held s.by) s.call s.reply
+
+-- the object of one thread, called in this order, may be called so, and gives each stand its reply; the log has the calls that changed it
 abbrev pub Replays : Plan → Object → List Entry → List Stand → Type 0
 Replays p object log [] = ⊤
-Replays p object log (s ∷ r) = IsReply p s.stock object.contents log (object.held s.by) s.call s.reply × Replays p (after_stand object s) (log_after log object s) r
+Replays p object log (s ∷ r) = IsAnswered p object log s × Replays p (after_stand object s) (log_after log object s) r
 
--- the line is one history of the object of one thread; it has each caller's stands, each once, in the caller's order, and leaves what the
+-- the object of one thread, with so many registers, can be called by the stand's caller, and its reply is the stand's, where that isn't Full
+pub record CanBeCalled (registers : ℕ) (object : Object) (s : Stand) : Type 0 where
+  pub caller : s.by < CALLERS
+  pub register : NamesBelow registers s.call
+  pub held : MayCall (object.held s.by) s.call
+  pub reply : is_full s.reply ≡ false → reply_in object (entry_of s) ≡ s.reply
+
+-- it can at each of these stands in turn
+abbrev pub CanBeCalledAlong : ℕ → Object → List Stand → Type 0
+CanBeCalledAlong registers object [] = ⊤
+CanBeCalledAlong registers object (s ∷ r) = CanBeCalled registers object s × CanBeCalledAlong registers (after_stand object s) r
+
+-- the line is one legal history of the object of one thread; it has each caller's stands, each once, in the caller's order, and leaves what the
 -- history leaves
 pub record InOneLine (p : Plan) (history : List Entry) (stands : List Stand) : Type 0 where
   pub replays : Replays p blank_object [] (line_of p.seats history stands)

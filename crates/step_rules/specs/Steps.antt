@@ -8,7 +8,7 @@ use Rattle.seat_history.specs.declared.reply.Reply.TheVariants.{Full}
 use mathlib.Core.Option.{some}
 use lib.ListN.{get_elem?}
 use Rattle.step_rules.specs.Claims.{BACK, HOLD, OWN, WALK, On}
-use Rattle.step_rules.specs.History.{GoesOn, IsThere, cell_of}
+use Rattle.step_rules.specs.History.{GoesOn, cell_of}
 use Rattle.step_rules.specs.Kinds.Backup.{Looks, Wins}
 use Rattle.step_rules.specs.Kinds.Claiming.{Frees, Rechecks}
 use Rattle.step_rules.specs.Kinds.Standing.{MayStand, first_look}
@@ -144,7 +144,6 @@ pub record HasScanned (v : View) (steps : List Counted) : Type 0 where
 
 -- the seat may answer a call that changes nothing, at the place q
 pub record MayAnswer (q : ℕ) (call : Call) (reply : Reply) (seat : SeatData) : Type 0 where
-  pub there : IsThere seat.view.plan call
   pub stand : MayStand q call reply seat.view
   pub looked : HasLooked q call seat.view
   pub full : (need free : ℕ) → reply ≡ Full need free → (free ≡ length seat.free) × (seat.holding ≡ []) × HasScanned seat.view (drop seat.view.since seat.view.trail)

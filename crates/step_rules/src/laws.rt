@@ -1,11 +1,15 @@
 // What the definitions come to. A law is a function with nothing to do.
 ghost use Rattle.std.specs.Prelude.{◌≡◌, ◌≤◌, ℕ, List};
+ghost use Rattle.seat_history.specs.Object.{blank_object};
 ghost use Rattle.seat_history.specs.declared.call.Call.{Call};
 ghost use Rattle.seat_history.specs.declared.entry.Entry.{Entry};
+ghost use Rattle.step_rules.specs.Closing.{ClosedData, IsClosed};
 ghost use Rattle.step_rules.specs.Flights.{FlightsAgree, LaterFound, ReadsAgree, VersionsAgree};
 ghost use Rattle.step_rules.specs.History.{IsHistory};
+ghost use Rattle.step_rules.specs.Line.{CanBeCalledAlong, line_of};
 ghost use Rattle.step_rules.specs.Order.{AreRecordsOf, NeedsByOrder};
 ghost use Rattle.step_rules.specs.Records.{records_at};
+ghost use Rattle.step_rules.specs.SeatData.{IsSeat, SeatData};
 ghost use Rattle.step_rules.specs.Starts.{StartIsPinned, UntouchedAgree};
 ghost use Rattle.step_rules.specs.declared.plan.Plan.{Plan};
 
@@ -22,6 +26,13 @@ pub fn records_are_one()
 /// What a change needs after a history is told by its key's place among the records of its cell.
 pub fn need_is_by_order()
     ensures { (p : Plan) (log : List Entry) (call : Call) → NeedsByOrder p log call }
+{}
+
+/// Along the line of a closed object, the object of one thread can be called at each stand, and gives
+/// each reply that isn't Full.
+pub fn closed_line_can_be_called()
+    ensures { (seat : SeatData) (closed : ClosedData) → IsSeat seat → IsClosed seat closed
+        → CanBeCalledAlong closed.plan.registers blank_object (line_of closed.plan.seats closed.history closed.stands) }
 {}
 
 /// Between any two steps, a cell with an even version and no mark has the words of its node inline. One

@@ -412,7 +412,7 @@ module _ (m : Moment) {k x n : ℕ} {call : Call} (may : MayExchange k x n call 
     seen = record { rest = []; whole = sym (append-nil es); own = λ y has. tt };
     earlier = goes_further v.earlier v.seen es (o.seen.rest ++ e ∷ []) o.earlier whole;
     trail = new_trail;
-    lawful = lawful_change p v log call (lawful_seen o o.seen.rest log o.seen.whole o.seen.own) (has_first v.numbers m.numbered) changes;
+    lawful = lawful_change p v log call (lawful_seen o o.seen.rest log o.seen.whole o.seen.own) (has_first v.numbers m.numbered) may.there changes;
     look = look_now p W'.backup es k (2 * n + 1) inside head_there backup_new;
     claims = exchange_claims exchange cell v.numbers (number v) v.seen o.seen.rest v.claims o.seen.whole o.claims;
     scan = record {

@@ -2,7 +2,7 @@
 use Rattle.std.proofs.Common.{◌≡◌, ◌≢◌, ◌∙◌, ℕ, ◌+◌, ◌≤◌, suc, zero, Bool, true, false, not, ◌&&◌, cond, eqb, ne_eqb, List, [], ◌∷◌, ◌++◌, Option, None}
 use Rattle.std.proofs.Common.{length, take, map, get_or, AllPairs}
 use Rattle.std.proofs.Common.{append-nil, length-append, refl, sym, ap, subst, arith, ⊎_elim}
-use Rattle.std.proofs.lemmas.Bool.{and_right}
+use Rattle.std.proofs.lemmas.Bool.{and_right, false≢true}
 use Rattle.std.proofs.lemmas.List.{take-append-le}
 use Rattle.std.proofs.lemmas.List.Elements.{filter-append}
 use Rattle.std.proofs.Math.Seq.{take-append-add}
@@ -14,14 +14,16 @@ use Rattle.seat_history.proofs.Replies.{reply_not_full}
 use Rattle.seat_history.specs.Change.{is_change}
 use Rattle.seat_history.specs.Contents.{Contents, blank}
 use Rattle.seat_history.specs.History.{contents_from, state_at}
+use Rattle.seat_history.specs.Object.{MayCall}
 use Rattle.seat_history.specs.Step.{held_after, reply_to}
 use Rattle.seat_history.specs.declared.call.Call.{Call}
+use Rattle.seat_history.specs.declared.call.Call.TheVariants.{Hold, Look, Release}
 use Rattle.seat_history.specs.declared.entry.Entry.{Entry}
 use Rattle.seat_history.specs.declared.reply.Reply.{Reply}
 use Rattle.seat_history.specs.declared.reply.Reply.TheVariants.{Full}
 use Rattle.step_rules.proofs.Numbers.Sets.{has-append, has_left, has_right}
-use Rattle.step_rules.specs.History.{NoneBy, entries_by}
-use Rattle.step_rules.specs.Lawful.{Below, IsReply, IsRight, Lawful, entry_of, held_by, held_from, is_full, made_by}
+use Rattle.step_rules.specs.History.{IsThere, NoneBy, entries_by}
+use Rattle.step_rules.specs.Lawful.{Below, IsLegal, IsReply, IsRight, Lawful, entry_of, held_by, held_from, is_full, made_by}
 use Rattle.step_rules.specs.Views.{changing, entry, number, reading, stock}
 use Rattle.step_rules.specs.World.{has}
 use Rattle.step_rules.specs.declared.plan.Plan.{Plan}
@@ -94,6 +96,7 @@ right_more plan a r before s placed right =
     let same = state_at-append a r s.place place in
     record {
       place = omega (arith, length-append a r);
+      legal = subst (λ (h : Option (List ℕ)). IsLegal plan h s.call) (sym (held_more a r s.by None before placed)) right.legal;
       reply = subst (λ (c : List Entry). IsReply plan s.stock (contents_from blank c) c (held_by (a ++ r) s.by before) s.call s.reply) (sym (take-append-le s.place a r place))
           (subst (λ (h : Option (List ℕ)). IsReply plan s.stock (state_at a s.place) (take s.place a) h s.call s.reply) (sym (held_more a r s.by None before placed)) right.reply);
       changes = subst (λ (c : Contents). s.changes ≡ (is_change c s.call && not (is_full s.reply))) (sym same) right.changes;
@@ -182,10 +185,17 @@ pub not_full : (reply : Reply) → ((need free : ℕ) → reply ≢ Full need fr
 not_full (Full need free) other = absurd (other need free refl)
 not_full _ other = refl
 
+-- a change may be made whatever is held
+change_may : (c : Contents) (held : Option (List ℕ)) (call : Call) → is_change c call ≡ true → MayCall held call
+change_may c held (Hold reg) h = absurd (false≢true h)
+change_may c held Look h = absurd (false≢true h)
+change_may c held Release h = absurd (false≢true h)
+change_may c held _ h = tt
+
 -- the call is right as the last of the history
-right_last : (plan : Plan) (v : View) (log : List Entry) (call : Call) → Placed log v.stands → is_change (state_at log (length log)) call ≡ true
+right_last : (plan : Plan) (v : View) (log : List Entry) (call : Call) → Placed log v.stands → IsThere plan call → is_change (state_at log (length log)) call ≡ true
     → IsRight plan (log ++ entry (number v) call ∷ []) v.stands (changing log call v)
-right_last plan v log call placed changes =
+right_last plan v log call placed there changes =
     let es : List Entry = log ++ entry (number v) call ∷ [] in
     let c : Contents = state_at log (length log) in
     let held : Option (List ℕ) = held_by log (number v) v.stands in
@@ -195,6 +205,7 @@ right_last plan v log call placed changes =
     let kept : held_by es (number v) v.stands ≡ held = held_more log (entry (number v) call ∷ []) (number v) None v.stands placed in
     record {
       place = omega (arith, length-append log (entry (number v) call ∷ []));
+      legal = record { there = there; may = change_may c (held_by es (number v) v.stands) call changes };
       reply = subst (λ (d : Contents). IsReply plan (stock v) d (take (length log) es) (held_by es (number v) v.stands) call reply) (sym same)
           (subst (λ (h : Option (List ℕ)). IsReply plan (stock v) c (take (length log) es) h call reply) (sym kept) (is_reply plan (stock v) c (take (length log) es) held call reply refl other));
       changes = sym (ap (λ (d : Contents). is_change d call && not (is_full reply)) same
@@ -204,14 +215,14 @@ right_last plan v log call placed changes =
 
 -- the seat's call is the last of the history
 pub lawful_change : (plan : Plan) (v : View) (log : List Entry) (call : Call) → Lawful plan v.numbers log v.stands → has v.numbers (number v) ≡ true
-    → is_change (state_at log (length log)) call ≡ true
+    → IsThere plan call → is_change (state_at log (length log)) call ≡ true
     → Lawful plan v.numbers (log ++ entry (number v) call ∷ []) (v.stands ++ changing log call v ∷ [])
-lawful_change plan v log call l by changes =
+lawful_change plan v log call l by there changes =
     let placed = placed_in l in
     record {
       right = right_push plan (log ++ entry (number v) call ∷ []) v.stands (changing log call v)
           (λ i t at. right_more plan log (entry (number v) call ∷ []) (take i v.stands) t (placed_before log v.stands i placed) (l.right i t at))
-          (right_last plan v log call placed changes);
+          (right_last plan v log call placed there changes);
       by = by_push v.numbers v.stands (changing log call v) l.by by;
       rising = rising_push v.stands (changing log call v) l.rising (below_end (changing log call v) l (omega arith));
       made = λ x h. filter-append (λ (e : Entry). eqb e.caller x) log (entry (number v) call ∷ [])
@@ -232,11 +243,14 @@ others_from {ns = ns} x l none i s at same = none (subst (λ n. has ns n ≡ tru
 right_after : (plan : Plan) (a : List Entry) (ss before : List Stand) (s : Stand) → Others s.by ss → IsRight plan a before s → IsRight plan a (ss ++ before) s
 right_after plan a ss before s others right = record {
   place = right.place;
-  reply = subst (λ (h : Option (List ℕ)). IsReply plan s.stock (state_at a s.place) (take s.place a) h s.call s.reply)
-      (sym (held_from-append a s.by None ss before ∙ ap (λ h. held_from a s.by h before) (held_else a s.by None ss others))) right.reply;
+  legal = subst (λ (h : Option (List ℕ)). IsLegal plan h s.call) same right.legal;
+  reply = subst (λ (h : Option (List ℕ)). IsReply plan s.stock (state_at a s.place) (take s.place a) h s.call s.reply) same right.reply;
   changes = right.changes;
   entry = right.entry;
 }
+  where
+    same : held_by a s.by before ≡ held_by a s.by (ss ++ before)
+    same = sym (held_from-append a s.by None ss before ∙ ap (λ h. held_from a s.by h before) (held_else a s.by None ss others))
 
 -- two plan that have seen the same
 pub lawful_join : {plan : Plan} {ns ms : List ℕ} {a : List Entry} {ss ts : List Stand} → Lawful plan ns a ss → Lawful plan ms a ts

@@ -19,7 +19,7 @@ use Rattle.seat_history.specs.declared.entry.Entry.{Entry}
 use Rattle.seat_history.specs.declared.reply.Reply.{Reply}
 use Rattle.seat_history.specs.declared.reply.Reply.TheVariants.{Full}
 use Rattle.step_rules.specs.History.{IsHistory, NoneBy, entries_by}
-use Rattle.step_rules.specs.Lawful.{Below, IsReply, Lawful, entry_of, held_by, held_from, is_full, made_by}
+use Rattle.step_rules.specs.Lawful.{Below, IsLegal, IsReply, Lawful, entry_of, held_by, held_from, is_full, made_by}
 use Rattle.step_rules.specs.Line.{InOneLine, Replays, after_stand, after_stands, log_after, entry_at, line_before, line_of, readings, readings_below, stands_by}
 use Rattle.step_rules.specs.World.{has}
 use Rattle.step_rules.specs.declared.plan.Plan.{Plan}
@@ -166,6 +166,7 @@ one_entry q e history stands at rising told made =
 
 -- the stand is right for the history, its caller holding this record before
 record Good (plan : Plan) (history : List Entry) (held : Option (List ℕ)) (s : Stand) : Type 0 where
+  legal : IsLegal plan held s.call
   reply : IsReply plan s.stock (state_at history s.place) (take s.place history) held s.call s.reply
   changes : s.changes ≡ (is_change (state_at history s.place) s.call && not (is_full s.reply))
   entry : Told history s
@@ -266,7 +267,7 @@ replay plan history q object log (s ∷ r) same logged place called =
     (λ ne. subst (λ (h : Option (List ℕ)). Called plan history h (stands_by x r)) (sym (held_else object (entry_of s) x (is_full s.reply) ne))
     (subst (λ b. Called plan history (object.held x) (cond b (s ∷ stands_by x r) (stands_by x r))) (ne_eqb s.by x ne) (called x l)))
     (cases_eq s.by x)) in
-    ((reply, rest.0), rest.1, (place.0, there, sym flag, rest.2))
+    ((record { legal = own.0.legal; reply = reply }, rest.0), rest.1, (place.0, there, sym flag, rest.2))
 
 -- readings at a place, before what else stands from it on
 still_first : (seats : ℕ) (history : List Entry) (q : ℕ) (front rest : List Stand) → Each (λ (s : Stand). (s.by < seats) × (s.place ≡ q) × (s.changes ≡ false)) front
@@ -334,6 +335,7 @@ module _ (p : Plan) (numbers : List ℕ) (history : List Entry) (stands : List S
       subst (λ (z : List Stand). Called p history None z) (sym (kept_order x l)) (called_by p history x None stands (λ i s at by.
       let right = lawful.right i s at in
       record {
+        legal = subst (λ n. IsLegal p (held_by history n (take i stands)) s.call) by right.legal;
         reply = subst (λ n. IsReply p s.stock (state_at history s.place) (take s.place history) (held_by history n (take i stands)) s.call s.reply) by right.reply;
         changes = right.changes;
         entry = right.entry;
