@@ -1,5 +1,6 @@
 pub mod Closings
 pub mod Counting
+pub mod Kept
 pub mod Lawfuls
 pub mod Legal
 pub mod Lines

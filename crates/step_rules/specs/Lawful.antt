@@ -14,6 +14,7 @@ use Rattle.seat_history.specs.declared.reply.Reply.{Reply}
 use Rattle.seat_history.specs.declared.reply.Reply.TheVariants.{Full}
 use Rattle.step_rules.specs.History.{IsThere, entries_by}
 use Rattle.step_rules.specs.Records.{need_in}
+use Rattle.step_rules.specs.Stock.{KeepsStock}
 use Rattle.step_rules.specs.World.{has}
 use Rattle.step_rules.specs.declared.layout.TheConstants.{CLAIMS}
 use Rattle.step_rules.specs.declared.plan.Plan.{Plan}
@@ -72,9 +73,11 @@ made_by x stands = filter (λ (s : Stand). s.changes && (s.by == x)) stands
 abbrev pub Below : Stand → Stand → Type 0
 Below a b = a.by ≡ b.by → (a.place ≤ b.place) × (a.changes ≡ true → a.place < b.place)
 
--- all stands are right, in their callers' orders, and those that change are just the callers' entries, in order
+-- all stands are right, in their callers' orders, and those that change are just the callers' entries, in order; beside each are its seat's nodes
 pub record Lawful (p : Plan) (numbers : List ℕ) (seen : List Entry) (stands : List Stand) : Type 0 where
   pub right : (i : ℕ) (s : Stand) → get_elem? stands i ≡ some s → IsRight p seen (take i stands) s
   pub by : (i : ℕ) (s : Stand) → get_elem? stands i ≡ some s → has numbers s.by ≡ true
   pub rising : AllPairs Below stands
   pub made : (x : ℕ) → has numbers x ≡ true → entries_by x seen ≡ map entry_of (made_by x stands)
+  pub kept : (i : ℕ) (s : Stand) → get_elem? stands i ≡ some s → KeepsStock p seen (take i stands) s
+  pub among : (i : ℕ) (s : Stand) → get_elem? stands i ≡ some s → (x : ℕ) → has s.numbers x ≡ true → has numbers x ≡ true

@@ -1,11 +1,14 @@
 -- All callers' stands in one line, and the object of one thread called in that order.
-use Rattle.std.specs.Prelude.{◌≡◌, ℕ, ◌<◌, ◌==◌, ◌&&◌, not, false, zero, suc, List, [], ◌∷◌, ◌++◌, length, filter, ⊤, if◌then◌else◌}
+use Rattle.std.specs.Prelude.{◌≡◌, ℕ, ◌<◌, ◌==◌, ◌&&◌, not, false, zero, suc, List, [], ◌∷◌, ◌++◌, length, filter, take, ⊤, if◌then◌else◌}
+use mathlib.Core.Option.{some}
+use lib.ListN.{get_elem?}
 use Rattle.seat_history.specs.Change.{is_change}
 use Rattle.seat_history.specs.History.{state_at}
 use Rattle.seat_history.specs.Object.{MayCall, NamesBelow, Object, blank_object, object_after, reply_in}
 use Rattle.seat_history.specs.declared.entry.Entry.{Entry}
 use Rattle.seat_history.specs.declared.plain.TheConstants.{CALLERS}
 use Rattle.step_rules.specs.Lawful.{IsLegal, IsReply, entry_of, is_full}
+use Rattle.step_rules.specs.Stock.{AreOfOne, KeepsStock, StocksAre}
 use Rattle.step_rules.specs.declared.plan.Plan.{Plan}
 use Rattle.step_rules.specs.declared.view.Stand.{Stand}
 
@@ -76,3 +79,6 @@ pub record InOneLine (p : Plan) (history : List Entry) (stands : List Stand) : T
   pub replays : Replays p blank_object [] (line_of p.seats history stands)
   pub order : (x : ℕ) → x < p.seats → stands_by x (line_of p.seats history stands) ≡ stands_by x stands
   pub contents : (after_stands blank_object (line_of p.seats history stands)).contents ≡ state_at history (length history)
+  -- the nodes beside each stand are its seat's, and so those of one number where the seat held no other
+  pub kept : (i : ℕ) (s : Stand) → get_elem? stands i ≡ some s → KeepsStock p history (take i stands) s
+  pub stocks : (x : ℕ) → x < p.seats → AreOfOne x (stands_by x (line_of p.seats history stands)) → StocksAre p history (stands_by x (line_of p.seats history stands))

@@ -21,7 +21,8 @@ pub record Stood (asked : Call) (told : Reply) (stand : Stand) (steps : List Cou
   pub by : stand.by ≡ number v
   pub call : stand.call ≡ asked
   pub reply : stand.reply ≡ told
-  -- the stock that it keeps is the seat's when the call was made
+  -- the numbers and the stock that it keeps are the seat's when the call was made
+  pub held : stand.numbers ≡ v.numbers
   pub stock : stand.stock ≡ stock v
   pub trail : w.trail ≡ v.trail ++ steps
   -- the place isn't before what was seen after the call's first look at its cell, and so not before what was seen before the call
@@ -47,7 +48,8 @@ pub record StoodStill (asked : Call) (told : Reply) (stand : Stand) (steps : Lis
   pub by : stand.by ≡ number v
   pub call : stand.call ≡ asked
   pub reply : stand.reply ≡ told
-  -- the stock that it keeps is the seat's when the call was made
+  -- the numbers and the stock that it keeps are the seat's when the call was made
+  pub held : stand.numbers ≡ v.numbers
   pub stock : stand.stock ≡ stock v
   pub trail : w.trail ≡ v.trail ++ steps
   pub from : length v.seen ≤ stand.place

@@ -88,6 +88,7 @@ changing log call v = record {
   reply = reply_to (state_at log (length log)) (held_by log (number v) v.stands) call;
   changes = true;
   stock = stock v;
+  numbers = v.numbers;
 }
 
 -- a claim word in which no claim stands
@@ -140,7 +141,7 @@ won_view k x n call log v = let es = log ++ entry (number v) call ∷ [] in reco
 
 -- STAND: one more stand, which is no change
 abbrev pub reading : ℕ → Call → Reply → View → Stand
-reading q call reply v = record { by = number v; place = q; call = call; reply = reply; changes = false; stock = stock v }
+reading q call reply v = record { by = number v; place = q; call = call; reply = reply; changes = false; stock = stock v; numbers = v.numbers }
 
 abbrev pub stood_view : ℕ → Call → Reply → View → View
 stood_view q call reply v = record v { stands = v.stands ++ reading q call reply v ∷ []; since = length v.trail }

@@ -16,6 +16,8 @@ pub struct Stand {
     pub changes: bool,
     /// How many nodes the seat had, its own and the retired ones, when the call was made.
     pub stock: u64,
+    /// The numbers that the seat held then.
+    pub numbers: LinkedList<u32>,
 }
 
 /// A node and its words.

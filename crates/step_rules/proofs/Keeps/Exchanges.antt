@@ -48,6 +48,7 @@ use Rattle.step_rules.proofs.Order.Edits.{chain_edit, edit_stock}
 use Rattle.step_rules.proofs.World.Exchanging.{exchange_cells, exchange_claims, exchange_leaves, exchange_nodes}
 use Rattle.step_rules.proofs.World.Frames.{backup_else, backup_here, backup_is, backup_store, claim_else, is_set, node_low, one_cell, set_at_else}
 use Rattle.step_rules.proofs.Order.Fronts.{chained_once, dropped_within, followed_link, followed_words, length-followed, length-without_all, need_some, once-without_all, without_all_at}
+use Rattle.step_rules.proofs.Line.Kept.{kept_now}
 use Rattle.step_rules.proofs.Line.Lawfuls.{lawful_change}
 use Rattle.step_rules.proofs.Ties.Owns.{words_at}
 use Rattle.step_rules.proofs.Line.Stocks.{stock_push}
@@ -412,7 +413,8 @@ module _ (m : Moment) {k x n : ℕ} {call : Call} (may : MayExchange k x n call 
     seen = record { rest = []; whole = sym (append-nil es); own = λ y has. tt };
     earlier = goes_further v.earlier v.seen es (o.seen.rest ++ e ∷ []) o.earlier whole;
     trail = new_trail;
-    lawful = lawful_change p v log call (lawful_seen o o.seen.rest log o.seen.whole o.seen.own) (has_first v.numbers m.numbered) may.there changes;
+    lawful = lawful_change p v log call (lawful_seen o o.seen.rest log o.seen.whole o.seen.own) (has_first v.numbers m.numbered) may.there changes
+        (kept_now v.numbers (changing log call v) refl refl (has_first v.numbers m.numbered) o.numbers.once o.lawful.by (stock_seen o (o.seen.rest ++ e ∷ []) es whole));
     look = look_now p W'.backup es k (2 * n + 1) inside head_there backup_new;
     claims = exchange_claims exchange cell v.numbers (number v) v.seen o.seen.rest v.claims o.seen.whole o.claims;
     scan = record {

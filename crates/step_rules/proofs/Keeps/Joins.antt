@@ -301,7 +301,14 @@ module _ (m : Moment) (other : ℕ) (w : View) (at_other : get_elem? m.vs other 
     stock = record { even = omega arith; removed = omega arith };
     seen = record { rest = U.log; whole = refl; own = λ x e. absurd (false≢true e) };
     earlier = ([], refl);
-    lawful = record { right = λ i s e. absurd cc; by = λ i s e. absurd cc; rising = λ i j d a b. absurd (omega arith); made = λ x e. absurd (false≢true e) };
+    lawful = record {
+      right = λ i s e. absurd cc;
+      by = λ i s e. absurd cc;
+      rising = λ i j d a b. absurd (omega arith);
+      made = λ x e. absurd (false≢true e);
+      kept = λ i s e. absurd cc;
+      among = λ i s e x h. absurd cc;
+    };
     trail = no_trail [];
     look = record { is = λ l e. absurd cc; holds = λ l e. absurd cc };
     claims = claims_quiet p join_after other [] 0 [] no_claims (λ lt. absurd (omega arith)) (no_claims_sound p []) no_claims_quiet (λ x c e lt. absurd (false≢true e));

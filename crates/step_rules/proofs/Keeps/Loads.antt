@@ -5,6 +5,7 @@ use Rattle.atomic_table.specs.Table.{step, Allows}
 use Rattle.seat_history.specs.declared.call.Call.{Call}
 use Rattle.seat_history.specs.declared.reply.Reply.{Reply}
 use Rattle.step_rules.proofs.World.Frames.{node_is, one_place}
+use Rattle.step_rules.proofs.Line.Kept.{kept_now}
 use Rattle.step_rules.proofs.Line.Lawfuls.{lawful_stand}
 use Rattle.step_rules.proofs.Rely.Moments.{Moment, load_owed, moment, own_step, seat, world}
 use Rattle.step_rules.proofs.Numbers.Sets.{has_first}
@@ -57,7 +58,8 @@ stood_ok W id q call reply v numbered may ok = record {
       (omega arith);
   seen = ok.seen;
   earlier = ok.earlier;
-  lawful = lawful_stand (reading q call reply v) ok.lawful (has_first v.numbers numbered) refl may.right may.above;
+  lawful = lawful_stand (reading q call reply v) ok.lawful (has_first v.numbers numbered) refl may.right may.above
+      (kept_now v.numbers (reading q call reply v) refl refl (has_first v.numbers numbered) ok.numbers.once ok.lawful.by ok.stock) (λ x h. h);
   trail = trail_stand ok.trail;
   look = ok.look;
   claims = ok.claims;

@@ -147,6 +147,8 @@ module _ (m : Moment) (free holding : List ℕ) (fresh : IsFresh m.view free hol
       by = λ i t e. let z : get_elem? [] i ≡ some t = subst (λ (l : List Stand). get_elem? l i ≡ some t) fresh.stands e in absurd cc;
       rising = o.lawful.rising;
       made = λ x e. o.lawful.made x (part.of_numbers x e);
+      kept = o.lawful.kept;
+      among = λ i t e x h. let z : get_elem? [] i ≡ some t = subst (λ (l : List Stand). get_elem? l i ≡ some t) fresh.stands e in absurd cc;
     };
     trail = o.trail;
     look = o.look;

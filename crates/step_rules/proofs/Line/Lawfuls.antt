@@ -2,7 +2,7 @@
 use Rattle.std.proofs.Common.{◌≡◌, ◌≢◌, ◌∙◌, ℕ, ◌+◌, ◌≤◌, suc, zero, Bool, true, false, not, ◌&&◌, cond, eqb, ne_eqb, List, [], ◌∷◌, ◌++◌, Option, None}
 use Rattle.std.proofs.Common.{length, take, map, get_or, AllPairs}
 use Rattle.std.proofs.Common.{append-nil, length-append, refl, sym, ap, subst, arith, ⊎_elim}
-use Rattle.std.proofs.lemmas.Bool.{and_right, false≢true}
+use Rattle.std.proofs.lemmas.Bool.{and_right, false_from_ne_true, false≢true}
 use Rattle.std.proofs.lemmas.List.{take-append-le}
 use Rattle.std.proofs.lemmas.List.Elements.{filter-append}
 use Rattle.std.proofs.Math.Seq.{take-append-add}
@@ -21,9 +21,11 @@ use Rattle.seat_history.specs.declared.call.Call.TheVariants.{Hold, Look, Releas
 use Rattle.seat_history.specs.declared.entry.Entry.{Entry}
 use Rattle.seat_history.specs.declared.reply.Reply.{Reply}
 use Rattle.seat_history.specs.declared.reply.Reply.TheVariants.{Full}
+use Rattle.step_rules.proofs.Line.Kept.{kept_after, kept_more}
 use Rattle.step_rules.proofs.Numbers.Sets.{has-append, has_left, has_right}
 use Rattle.step_rules.specs.History.{IsThere, NoneBy, entries_by}
 use Rattle.step_rules.specs.Lawful.{Below, IsLegal, IsReply, IsRight, Lawful, entry_of, held_by, held_from, is_full, made_by}
+use Rattle.step_rules.specs.Stock.{KeepsStock}
 use Rattle.step_rules.specs.Views.{changing, entry, number, reading, stock}
 use Rattle.step_rules.specs.World.{has}
 use Rattle.step_rules.specs.declared.plan.Plan.{Plan}
@@ -119,39 +121,44 @@ lawful_more {plan = plan} {a = a} {ss = ss} r none l = record {
   by = l.by;
   rising = l.rising;
   made = λ x h. entries_more x a r (none x h) ∙ l.made x h;
+  kept = λ i s at. kept_more plan a r (take i ss) s (λ j t there. (l.right j t (at_take ss i j t there)).place) (l.kept i s at);
+  among = l.among;
 }
 
 made_append : (x : ℕ) (ss ts : List Stand) → map entry_of (made_by x (ss ++ ts)) ≡ map entry_of (made_by x ss) ++ map entry_of (made_by x ts)
 made_append x ss ts = ap (map entry_of) (filter-append (λ (s : Stand). s.changes && eqb s.by x) ss ts) ∙ map-append entry_of (made_by x ss) (made_by x ts)
 
--- stands added after others, each right after all that stand before it
-right_append : (plan : Plan) (a : List Entry) (ss ts : List Stand) → ((i : ℕ) (s : Stand) → get_elem? ss i ≡ some s → IsRight plan a (take i ss) s)
-    → ((k : ℕ) (t : Stand) → get_elem? ts k ≡ some t → IsRight plan a (ss ++ take k ts) t)
-    → (i : ℕ) (s : Stand) → get_elem? (ss ++ ts) i ≡ some s → IsRight plan a (take i (ss ++ ts)) s
-right_append plan a ss ts first second i s at = ⊎_elim
-    (λ h. let low = at_below ss i s h in subst (λ (b : List Stand). IsRight plan a b s) (sym (take-append-le i ss ts (omega arith))) (first i s h))
-    (λ h. subst (λ (n : ℕ). IsRight plan a (take n (ss ++ ts)) s) (sym h.1) (subst (λ (b : List Stand). IsRight plan a b s) (sym (take-append-add ss ts h.0)) (second h.0 s h.2)))
+-- what holds of each stand after all that stand before it holds so of stands added after others
+each_append : (P : List Stand → Stand → Type 0) (ss ts : List Stand) → ((i : ℕ) (s : Stand) → get_elem? ss i ≡ some s → P (take i ss) s)
+    → ((k : ℕ) (t : Stand) → get_elem? ts k ≡ some t → P (ss ++ take k ts) t)
+    → (i : ℕ) (s : Stand) → get_elem? (ss ++ ts) i ≡ some s → P (take i (ss ++ ts)) s
+each_append P ss ts first second i s at = ⊎_elim
+    (λ h. let low = at_below ss i s h in subst (λ (b : List Stand). P b s) (sym (take-append-le i ss ts (omega arith))) (first i s h))
+    (λ h. subst (λ (n : ℕ). P (take n (ss ++ ts)) s) (sym h.1) (subst (λ (b : List Stand). P b s) (sym (take-append-add ss ts h.0)) (second h.0 s h.2)))
     (at_append ss ts i s at)
 
-by_append : (ns : List ℕ) (ss ts : List Stand) → ((i : ℕ) (s : Stand) → get_elem? ss i ≡ some s → has ns s.by ≡ true)
-    → ((i : ℕ) (s : Stand) → get_elem? ts i ≡ some s → has ns s.by ≡ true)
-    → (i : ℕ) (s : Stand) → get_elem? (ss ++ ts) i ≡ some s → has ns s.by ≡ true
-by_append ns ss ts first second i s at = ⊎_elim (λ h. first i s h) (λ h. second h.0 s h.2) (at_append ss ts i s at)
+all_append : (Q : Stand → Type 0) (ss ts : List Stand) → ((i : ℕ) (s : Stand) → get_elem? ss i ≡ some s → Q s) → ((i : ℕ) (s : Stand) → get_elem? ts i ≡ some s → Q s)
+    → (i : ℕ) (s : Stand) → get_elem? (ss ++ ts) i ≡ some s → Q s
+all_append Q ss ts first second i s at = ⊎_elim (λ h. first i s h) (λ h. second h.0 s h.2) (at_append ss ts i s at)
 
 -- a list of one
 one_at : {A : Type 0} (a : A) (k : ℕ) (b : A) → get_elem? (a ∷ []) k ≡ some b → (k ≡ 0) × (a ≡ b)
 one_at a zero b e = (refl, some-injective a b e)
 one_at a (suc k) b e = absurd (some-ne-none b (sym e))
 
-right_push : (plan : Plan) (a : List Entry) (ss : List Stand) (s : Stand) → ((i : ℕ) (t : Stand) → get_elem? ss i ≡ some t → IsRight plan a (take i ss) t) → IsRight plan a ss s
-    → (i : ℕ) (t : Stand) → get_elem? (ss ++ s ∷ []) i ≡ some t → IsRight plan a (take i (ss ++ s ∷ [])) t
-right_push plan a ss s each right = right_append plan a ss (s ∷ []) each (λ k t at. let p = one_at s k t at in
-    subst (λ (n : ℕ). IsRight plan a (ss ++ take n (s ∷ [])) t) (sym p.0)
-    (subst (λ (z : Stand). IsRight plan a (ss ++ []) z) p.1 (subst (λ (b : List Stand). IsRight plan a b s) (sym (append-nil ss)) right)))
+each_push : (P : List Stand → Stand → Type 0) (ss : List Stand) (s : Stand) → ((i : ℕ) (t : Stand) → get_elem? ss i ≡ some t → P (take i ss) t) → P ss s
+    → (i : ℕ) (t : Stand) → get_elem? (ss ++ s ∷ []) i ≡ some t → P (take i (ss ++ s ∷ [])) t
+each_push P ss s each one = each_append P ss (s ∷ []) each (λ k t at. let p = one_at s k t at in
+    subst (λ (n : ℕ). P (ss ++ take n (s ∷ [])) t) (sym p.0)
+    (subst (λ (z : Stand). P (ss ++ []) z) p.1 (subst (λ (b : List Stand). P b s) (sym (append-nil ss)) one)))
 
-by_push : (ns : List ℕ) (ss : List Stand) (s : Stand) → ((i : ℕ) (t : Stand) → get_elem? ss i ≡ some t → has ns t.by ≡ true) → has ns s.by ≡ true
-    → (i : ℕ) (t : Stand) → get_elem? (ss ++ s ∷ []) i ≡ some t → has ns t.by ≡ true
-by_push ns ss s each by = by_append ns ss (s ∷ []) each (λ k t at. subst (λ (z : Stand). has ns z.by ≡ true) (one_at s k t at).1 by)
+all_push : (Q : Stand → Type 0) (ss : List Stand) (s : Stand) → ((i : ℕ) (t : Stand) → get_elem? ss i ≡ some t → Q t) → Q s
+    → (i : ℕ) (t : Stand) → get_elem? (ss ++ s ∷ []) i ≡ some t → Q t
+all_push Q ss s each one = all_append Q ss (s ∷ []) each (λ k t at. subst Q (one_at s k t at).1 one)
+
+-- the stand's numbers are among these
+abbrev Among : List ℕ → Stand → Type 0
+Among ns s = (x : ℕ) → has s.numbers x ≡ true → has ns x ≡ true
 
 rising_push : (ss : List Stand) (s : Stand) → AllPairs Below ss → ((i : ℕ) (t : Stand) → get_elem? ss i ≡ some t → Below t s) → AllPairs Below (ss ++ s ∷ [])
 rising_push ss s rising above = pairs_append Below ss (s ∷ []) rising (λ i j d lt within. absurd (omega arith))
@@ -159,13 +166,16 @@ rising_push ss s rising above = pairs_append Below ss (s ∷ []) rising (λ i j 
 
 -- a stand that is no change
 pub lawful_stand : {plan : Plan} {ns : List ℕ} {a : List Entry} {ss : List Stand} (s : Stand) → Lawful plan ns a ss → has ns s.by ≡ true → s.changes ≡ false → IsRight plan a ss s
-    → ((i : ℕ) (t : Stand) → get_elem? ss i ≡ some t → Below t s) → Lawful plan ns a (ss ++ s ∷ [])
-lawful_stand {plan = plan} {ns = ns} {a = a} {ss = ss} s l by still right above = record {
-  right = right_push plan a ss s l.right right;
-  by = by_push ns ss s l.by by;
+    → ((i : ℕ) (t : Stand) → get_elem? ss i ≡ some t → Below t s) → KeepsStock plan a ss s → Among ns s
+    → Lawful plan ns a (ss ++ s ∷ [])
+lawful_stand {plan = plan} {ns = ns} {a = a} {ss = ss} s l by still right above kept among = record {
+  right = each_push (IsRight plan a) ss s l.right right;
+  by = all_push (λ (t : Stand). has ns t.by ≡ true) ss s l.by by;
   rising = rising_push ss s l.rising above;
   made = λ x h. l.made x h ∙ sym (made_append x ss (s ∷ [])
       ∙ (ap (λ (b : Bool). map entry_of (made_by x ss) ++ map entry_of (cond (b && eqb s.by x) (s ∷ []) [])) still ∙ append-nil (map entry_of (made_by x ss))));
+  kept = each_push (KeepsStock plan a) ss s l.kept kept;
+  among = all_push (Among ns) ss s l.among among;
 }
 
 -- a stand at the end of what was seen, or later, comes after all
@@ -216,19 +226,24 @@ right_last plan v log call placed there changes =
 -- the seat's call is the last of the history
 pub lawful_change : (plan : Plan) (v : View) (log : List Entry) (call : Call) → Lawful plan v.numbers log v.stands → has v.numbers (number v) ≡ true
     → IsThere plan call → is_change (state_at log (length log)) call ≡ true
+    → KeepsStock plan (log ++ entry (number v) call ∷ []) v.stands (changing log call v)
     → Lawful plan v.numbers (log ++ entry (number v) call ∷ []) (v.stands ++ changing log call v ∷ [])
-lawful_change plan v log call l by there changes =
+lawful_change plan v log call l by there changes kept =
     let placed = placed_in l in
     record {
-      right = right_push plan (log ++ entry (number v) call ∷ []) v.stands (changing log call v)
+      right = each_push (IsRight plan (log ++ entry (number v) call ∷ [])) v.stands (changing log call v)
           (λ i t at. right_more plan log (entry (number v) call ∷ []) (take i v.stands) t (placed_before log v.stands i placed) (l.right i t at))
           (right_last plan v log call placed there changes);
-      by = by_push v.numbers v.stands (changing log call v) l.by by;
+      by = all_push (λ (t : Stand). has v.numbers t.by ≡ true) v.stands (changing log call v) l.by by;
       rising = rising_push v.stands (changing log call v) l.rising (below_end (changing log call v) l (omega arith));
       made = λ x h. filter-append (λ (e : Entry). eqb e.caller x) log (entry (number v) call ∷ [])
           ∙ (ap (λ z. z ++ entries_by x (entry (number v) call ∷ [])) (l.made x h)
           ∙ (ap (λ z. map entry_of (made_by x v.stands) ++ z) (one (eqb (number v) x))
           ∙ sym (made_append x v.stands (changing log call v ∷ []))));
+      kept = each_push (KeepsStock plan (log ++ entry (number v) call ∷ [])) v.stands (changing log call v)
+          (λ i t at. kept_more plan log (entry (number v) call ∷ []) (take i v.stands) t (λ j u there. (l.right j u (at_take v.stands i j u there)).place) (l.kept i t at))
+          kept;
+      among = all_push (Among v.numbers) v.stands (changing log call v) l.among (λ x h. h);
     }
   where
     one : (t : Bool) → cond t (entry (number v) call ∷ []) [] ≡ map entry_of (cond (true && t) (changing log call v ∷ []) [])
@@ -257,8 +272,8 @@ pub lawful_join : {plan : Plan} {ns ms : List ℕ} {a : List Entry} {ss ts : Lis
     → ((x : ℕ) → has ns x ≡ true → has ms x ≡ true → ⊥)
     → Lawful plan (ns ++ ms) a (ss ++ ts)
 lawful_join {plan = plan} {ns = ns} {ms = ms} {a = a} {ss = ss} {ts = ts} l m apart = record {
-  right = right_append plan a ss ts l.right (λ k t at. right_after plan a ss (take k ts) t (others_from t.by l (λ h. apart t.by h (m.by k t at))) (m.right k t at));
-  by = by_append (ns ++ ms) ss ts (λ i s at. has_left ns ms s.by (l.by i s at)) (λ i t at. has_right ns ms t.by (m.by i t at));
+  right = each_append (IsRight plan a) ss ts l.right (λ k t at. right_after plan a ss (take k ts) t (others_from t.by l (λ h. apart t.by h (m.by k t at))) (m.right k t at));
+  by = all_append (λ (t : Stand). has (ns ++ ms) t.by ≡ true) ss ts (λ i s at. has_left ns ms s.by (l.by i s at)) (λ i t at. has_right ns ms t.by (m.by i t at));
   rising = pairs_append Below ss ts l.rising m.rising (λ i j s t p q same. absurd (apart t.by (subst (λ n. has ns n ≡ true) same (l.by i s p)) (m.by j t q)));
   made = λ x h. ⊎_elim
       (λ p. l.made x p ∙ sym (made_append x ss ts
@@ -266,6 +281,9 @@ lawful_join {plan = plan} {ns = ns} {ms = ms} {a = a} {ss = ss} {ts = ts} l m ap
       (λ p. m.made x p ∙ sym (made_append x ss ts
       ∙ ap (λ z. map entry_of z ++ map entry_of (made_by x ts)) (made_else x ss (others_from x l (λ q. apart x q p)))))
       (has-append ns ms x h);
+  kept = each_append (KeepsStock plan a) ss ts l.kept (λ k t at. kept_after plan a ss (take k ts) t
+      (λ i s p. false_from_ne_true (has t.numbers s.by) (λ h. apart s.by (l.by i s p) (m.among k t at s.by h))) (m.kept k t at));
+  among = all_append (Among (ns ++ ms)) ss ts (λ i s at x h. has_left ns ms x (l.among i s at x h)) (λ i t at x h. has_right ns ms x (m.among i t at x h));
 }
 
 pub above_end : (plan : Plan) (ns : List ℕ) (a : List Entry) (ss : List Stand) (q : ℕ) (call : Call) (reply : Reply) (v : View) → Lawful plan ns a ss → length a ≤ q → (i : ℕ) (s : Stand)

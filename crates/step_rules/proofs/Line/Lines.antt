@@ -21,9 +21,11 @@ use Rattle.seat_history.specs.declared.reply.Reply.TheVariants.{Full}
 use Rattle.step_rules.specs.History.{IsHistory, NoneBy, entries_by}
 use Rattle.step_rules.specs.Lawful.{Below, IsLegal, IsReply, Lawful, entry_of, held_by, held_from, is_full, made_by}
 use Rattle.step_rules.specs.Line.{InOneLine, Replays, after_stand, after_stands, log_after, entry_at, line_before, line_of, readings, readings_below, stands_by}
+use Rattle.step_rules.specs.Stock.{AreOfOne, StocksAre}
 use Rattle.step_rules.specs.World.{has}
 use Rattle.step_rules.specs.declared.plan.Plan.{Plan}
 use Rattle.step_rules.specs.declared.view.Stand.{Stand}
+use Rattle.step_rules.proofs.Line.Kept.{stocks_one}
 use Rattle.step_rules.proofs.Line.Ordering.{Each, Pairs, Within, at_most_one, below_place, both_false, by_whole, each_append, each_from, each_map, filter_kept, filter_same, is_made, lt_under}
 use Rattle.step_rules.proofs.Line.Ordering.{next_place, none_before, on_place, pairs_from, pairs_map, reading_by, under}
 use Rattle.step_rules.proofs.Numbers.Places.{at_below}
@@ -342,7 +344,13 @@ module _ (p : Plan) (numbers : List ℕ) (history : List Entry) (stands : List S
       })))
 
   pub in_one_line : InOneLine p history stands
-  in_one_line = record { replays = replayed.0; order = kept_order; contents = replayed.1 }
+  in_one_line = record {
+    replays = replayed.0;
+    order = kept_order;
+    contents = replayed.1;
+    kept = lawful.kept;
+    stocks = λ x l one. subst (StocksAre p history) (sym (kept_order x l)) (stocks_one p history x [] stands lawful.kept (subst (AreOfOne x) (kept_order x l) one));
+  }
 
   pub line_tells : Tells p history blank_object [] (line_of p.seats history stands)
   line_tells = replayed.2

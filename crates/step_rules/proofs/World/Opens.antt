@@ -212,7 +212,14 @@ start_seat p ws start = record {
       )) refl;
   seen = record { rest = []; whole = refl; own = λ x h. tt };
   earlier = ([], refl);
-  lawful = record { right = λ i s e. absurd cc; by = λ i s e. absurd cc; rising = λ i j d a b. absurd (omega arith); made = λ x h. refl };
+  lawful = record {
+    right = λ i s e. absurd cc;
+    by = λ i s e. absurd cc;
+    rising = λ i j d a b. absurd (omega arith);
+    made = λ x h. refl;
+    kept = λ i s e. absurd cc;
+    among = λ i s e x h. absurd cc;
+  };
   trail = no_trail [];
   look = record { is = λ l e. absurd cc; holds = λ l e. absurd cc };
   claims = claims_quiet p (world_of p ws (start_unwritten p)) 0 (count_up 0 p.seats) (number (starting p)) [] no_claims
