@@ -5,14 +5,14 @@ use Rattle.std.proofs.lemmas.List.{append-nil, length-append, length-drop, nil_f
 use Rattle.wire_ports.specs.FeedMoments.{FeedAt, HasGiven, EndsEarly, ReadsBehind, ReadsRest}
 use Rattle.wire_ports.specs.declared.whole.ReadEnd.{ReadEnd}
 use Rattle.wire_ports.specs.declared.whole.ReadEnd.TheVariants as reading
-use Rattle.wire_ports.proofs.FeedMoments.{none_given, given_more, given_to_end, ends_later}
+use Rattle.wire_ports.proofs.FeedMoments.{none_given, given_more, given_to_end, failed_later}
 use Rattle.netflow_five.specs.Fault.{IsFault}
 use Rattle.netflow_five.specs.File.{joined, IsFile, IsBad}
-use Rattle.netflow_five.specs.Next.{ReadTo, StopsAt, IsShort, CameTo, CollectsFront}
+use Rattle.netflow_five.specs.Next.{ReadTo, StopsAt, IsShort, CameTo, CollectsFront, CollectsSome, CollectsTo}
 use Rattle.netflow_five.specs.Streaming.{CollectsFile, end_of}
 use Rattle.netflow_five.specs.declared.malformed.Malformed.{Malformed as Cause}
 use Rattle.netflow_five.specs.declared.file_end.FileEnd.{FileEnd}
-use Rattle.netflow_five.specs.declared.file_end.FileEnd.TheVariants.{Malformed}
+use Rattle.netflow_five.specs.declared.file_end.FileEnd.TheVariants.{Malformed, NoMemory}
 use Rattle.netflow_five.proofs.Faults.{lasts, short_bytes}
 use Rattle.netflow_five.proofs.Files.{all_append, bad_here, joined-append}
 
@@ -66,16 +66,35 @@ module _ {C : Type 0} {holds : C → List (List ℕ) → Type 0} {bytes rest : L
   pub front_file : rest ≡ [] → IsFile bytes ds
   front_file none = record { each = front.each; whole = front.whole ∙ ap (λ (z : List ℕ). joined ds ++ z) none ∙ append-nil (joined ds) }
 
+  front_size : length bytes ≡ length (joined ds) + length rest
+  front_size = ap length front.whole ∙ length-append (joined ds) rest
+
+  front_is : ReadTo bytes (length (joined ds)) ds
+  front_is = record {
+    file = record {
+      each = front.each;
+      whole = ap (take (length (joined ds))) front.whole ∙ take_at (joined ds) rest (length (joined ds)) refl;
+    };
+    within = omega (arith, front_size);
+  }
+
+  -- what comes before the rest was collected
+  pub front_until : CollectsTo holds bytes (length bytes - length rest) a b
+  front_until =
+      let at : length (joined ds) ≡ length bytes - length rest = omega (arith, front_size) in
+      (ds, subst (λ (k : ℕ). ReadTo bytes k ds) at front_is, front.came)
+
+  pub front_some : CollectsSome holds bytes a b
+  front_some = (length bytes - length rest, front_until)
+
   -- bytes whose rest begins with no datagram are no file
   pub front_bad : (cause : Cause) → 0 < length rest → IsFault rest cause → IsBad bytes (length bytes - length rest) cause
   front_bad cause some fault =
-      let size : length bytes ≡ length (joined ds) + length rest = ap length front.whole ∙ length-append (joined ds) rest in
+      let size = front_size in
       let at : length (joined ds) ≡ length bytes - length rest = omega arith in
-      let first : take (length (joined ds)) bytes ≡ joined ds = ap (take (length (joined ds))) front.whole ∙ take_at (joined ds) rest (length (joined ds)) refl in
       let last : drop (length (joined ds)) bytes ≡ rest = ap (drop (length (joined ds))) front.whole ∙ drop_at (joined ds) rest (length (joined ds)) refl in
-      let read : ReadTo bytes (length (joined ds)) ds = record { file = record { each = front.each; whole = first }; within = omega arith } in
       subst (λ (k : ℕ). IsBad bytes k cause) at
-      (bad_here bytes (length (joined ds)) ds cause read (omega arith) (subst (λ (z : List ℕ). IsFault z cause) (sym last) fault))
+      (bad_here bytes (length (joined ds)) ds cause front_is (omega arith) (subst (λ (z : List ℕ). IsFault z cause) (sym last) fault))
 
 -- these bytes were read, so many: these datagrams, which came to what was collected, and those in the window
 pub record SoFar {C : Type 0} (holds : C → List (List ℕ) → Type 0) (start : FeedAt) (old : C) (read : ℕ) (bytes : List ℕ) (ds : List (List ℕ)) (window : List ℕ) (now : FeedAt) (new : C) : Type 0 where
@@ -90,12 +109,6 @@ none_so_far holds start old started = record {
   front = record { each = tt; whole = refl; came = came_none holds old };
 }
 
-early : {C : Type 0} (holds : C → List (List ℕ) → Type 0) (most : ℕ) (start later : FeedAt) (old new : C) (end : ReadEnd) → EndsEarly most start later end
-    → CollectsFile holds most start old later new (Err (end_of end))
-early holds most start later old new reading.Failed ends = ends
-early holds most start later old new reading.TooLarge ends = ends
-early holds most start later old new reading.NoMemory ends = ends
-
 module _ {C : Type 0} {holds : C → List (List ℕ) → Type 0} {start now : FeedAt} {old new : C} {read : ℕ} {bytes window : List ℕ} {ds : List (List ℕ)}
     (so_far : SoFar holds start old read bytes ds window now new) where
   -- more bytes were read, and with them further datagrams are there
@@ -107,20 +120,42 @@ module _ {C : Type 0} {holds : C → List (List ℕ) → Type 0} {start now : Fe
     front = front_more (subst (λ (z : List ℕ). CollectsFront holds (bytes ++ reads.bytes) old ds z new) (sym reads.behind) (front_longer so_far.front reads.bytes)) next;
   }
 
-  -- a read that ends the reading ends the collecting
-  pub ends_early : {most : ℕ} (later : FeedAt) (last : C) (end : ReadEnd) (told : FileEnd) → read ≤ most → EndsEarly (most - read) now later end → told ≡ end_of end
-      → CollectsFile holds most start old later last (Err told)
-  ends_early {most} later last end told few ends is =
-      subst (λ (e : FileEnd). CollectsFile holds most start old later last (Err e)) (sym is)
-      (early holds most start later old last end (ends_later read most later end so_far.given so_far.count few ends))
-
-  -- want of memory after a read
-  pub ends_wanting : {most n : ℕ} {filled : List ℕ} {later : FeedAt} → ReadsBehind window now n filled later → read ≤ most → n ≤ most - read → EndsEarly most start later reading.NoMemory
-  ends_wanting {most} {n} {filled} {later} reads few fits = (
-    bytes ++ reads.bytes,
-    omega (arith, so_far.count, reads.count, length-append bytes reads.bytes),
-    given_more so_far.given reads.given,
+  early : (most : ℕ) (later : FeedAt) (end : ReadEnd) → read ≤ most → EndsEarly (most - read) now later end → CollectsFile holds most start old later new (Err (end_of end))
+  early most later reading.Failed few ends = (
+    bytes ++ ends.0,
+    omega (arith, ends.1, so_far.count, length-append bytes ends.0),
+    failed_later so_far.given ends.2,
+    front_some (front_longer so_far.front ends.0),
   )
+  early most later reading.TooLarge few ends = (
+    bytes ++ ends.0,
+    omega (arith, ends.1, so_far.count, length-append bytes ends.0),
+    given_more so_far.given ends.2,
+    front_some (front_longer so_far.front ends.0),
+  )
+  early most later reading.NoMemory few ends = (
+    bytes ++ ends.0,
+    omega (arith, ends.1, so_far.count, length-append bytes ends.0),
+    given_more so_far.given ends.2,
+    front_some (front_longer so_far.front ends.0),
+  )
+
+  -- a read that ends the reading ends the collecting
+  pub ends_early : {most : ℕ} (later : FeedAt) (end : ReadEnd) (told : FileEnd) → read ≤ most → EndsEarly (most - read) now later end → told ≡ end_of end
+      → CollectsFile holds most start old later new (Err told)
+  ends_early {most} later end told few ends is =
+      subst (λ (e : FileEnd). CollectsFile holds most start old later new (Err e)) (sym is) (early most later end few ends)
+
+  -- want of memory after a read, with some first datagrams of what the window has collected
+  pub ends_wanting : {most n : ℕ} {filled : List ℕ} {later : FeedAt} {last : C} → ReadsBehind window now n filled later → read ≤ most → n ≤ most - read
+      → CollectsSome holds filled new last → CollectsFile holds most start old later last (Err NoMemory)
+  ends_wanting {most} {n} {filled} {later} {last} reads few fits (at, (es, read_to, came)) =
+      let all : SoFar holds start old (read + n) (bytes ++ reads.bytes) (ds ++ es) (drop at filled) later last = more_so_far reads (front_read read_to came) in (
+        bytes ++ reads.bytes,
+        omega (arith, so_far.count, reads.count, length-append bytes reads.bytes),
+        given_more so_far.given reads.given,
+        front_some all.front,
+      )
 
   -- the rest of the file mends no fault that lasts
   pub bad_in_rest : {most n left : ℕ} {later : FeedAt} {cause : Option Cause} (fault : Cause) → StopsAt window 0 cause → cause ≡ Some fault → (IsShort fault → ⊥)
@@ -137,6 +172,7 @@ module _ {C : Type 0} {holds : C → List (List ℕ) → Type 0} {start now : Fe
         reads.at_end,
         subst (λ (k : ℕ). IsBad all k fault) at
             (front_bad (front_longer so_far.front reads.bytes) fault (omega (arith, here.0, length-append window reads.bytes)) (lasts window reads.bytes fault long here.1)),
+        subst (λ (k : ℕ). CollectsTo holds all k old new) at (front_until (front_longer so_far.front reads.bytes)),
       )
 
   -- at the file's end nothing is left, or this is why the bytes are no file
@@ -156,4 +192,5 @@ module _ {C : Type 0} {holds : C → List (List ℕ) → Type 0} {start now : Fe
         (given_to_end so_far.given reads zero).0,
         reads.at_end zero,
         subst (λ (k : ℕ). IsBad bytes k fault) at (front_bad so_far.front fault stops.0 stops.1),
+        subst (λ (k : ℕ). CollectsTo holds bytes k old new) at (front_until so_far.front),
       )

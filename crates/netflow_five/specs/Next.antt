@@ -5,6 +5,8 @@ use Rattle.netflow_five.specs.Datagram.{IsDatagram}
 use Rattle.netflow_five.specs.Fault.{IsFault}
 use Rattle.netflow_five.specs.File.{IsFile, joined}
 use Rattle.netflow_five.specs.declared.malformed.Malformed.{Malformed}
+use Rattle.netflow_five.specs.declared.refused.Refused.{Refused}
+use Rattle.netflow_five.specs.declared.refused.Refused.TheVariants as refused
 use Rattle.netflow_five.specs.declared.malformed.Malformed.TheVariants.{ShortHeader, ShortRecords}
 
 -- the bytes up to a place are these datagrams
@@ -26,6 +28,19 @@ IsShort _ = ⊥
 -- these datagrams came to what was collected, whatever that was
 abbrev pub CameTo : {C : Type 0} → (C → List (List ℕ) → Type 0) → C → List (List ℕ) → C → Type 0
 CameTo holds old ds new = (before : List (List ℕ)) → holds old before → holds new (before ++ ds)
+
+-- the bytes up to a place are datagrams, which came to what was collected
+abbrev pub CollectsTo : {C : Type 0} → (C → List (List ℕ) → Type 0) → List ℕ → ℕ → C → C → Type 0
+CollectsTo holds bytes at old new = (ds : List (List ℕ)) × ReadTo bytes at ds × CameTo holds old ds new
+
+-- some datagrams that the bytes begin with came to what was collected
+abbrev pub CollectsSome : {C : Type 0} → (C → List (List ℕ) → Type 0) → List ℕ → C → C → Type 0
+CollectsSome holds bytes old new = (at : ℕ) × CollectsTo holds bytes at old new
+
+-- what was collected of bytes that are refused
+abbrev pub StaysAt : {C : Type 0} → (C → List (List ℕ) → Type 0) → List ℕ → C → C → Refused → Type 0
+StaysAt holds bytes old new (refused.Malformed offset cause) = CollectsTo holds bytes offset old new
+StaysAt holds bytes old new refused.NoMemory = CollectsSome holds bytes old new
 
 -- the bytes begin with these datagrams, which came to what was collected, and this is the rest of them
 pub record CollectsFront {C : Type 0} (holds : C → List (List ℕ) → Type 0) (bytes : List ℕ) (old : C) (ds : List (List ℕ)) (rest : List ℕ) (new : C) : Type 0 where

@@ -1,4 +1,4 @@
-ghost use Rattle.std.specs.Prelude.{◌≡◌, ◌+◌, ◌<◌, ◌≤◌, ◌^◌, ◌∷◌, ◌++◌, [], List, ℕ, length, OnOk};
+ghost use Rattle.std.specs.Prelude.{◌≡◌, ◌+◌, ◌<◌, ◌≤◌, ◌^◌, ◌∷◌, ◌++◌, [], List, ℕ, length, OnOk, OnErr};
 
 use crate::datagram::Datagram;
 use wire_ports::NoMemory;
@@ -11,10 +11,11 @@ pub trait Collector {
     /// A number that no datagram raises by more than its bytes.
     ghost span: { Self → ℕ };
 
-    /// Takes one datagram more.
+    /// Takes one datagram more. Where memory runs out, it holds what it held.
     fn add(&mut self, datagram: &Datagram<'_>) -> Result<(), NoMemory>
         requires span { span self.old + length datagram.now.bytes.now < 2 ^ 64 }
         ensures holds { OnOk result ((before : List (List ℕ)) → holds self.old before
             → holds self.new (before ++ datagram.now.bytes.now ∷ [])) }
-        ensures span { OnOk result (span self.new ≤ span self.old + length datagram.now.bytes.now) };
+        ensures kept { OnErr result ((taken : List (List ℕ)) → holds self.old taken → holds self.new taken) }
+        ensures span { span self.new ≤ span self.old + length datagram.now.bytes.now };
 }

@@ -37,7 +37,8 @@ given_more {xs} {ys} {a} {b} {c} first second = record {
   steady = second.steady ∙ first.steady;
 }
 
-failed_later : {xs ys : List ℕ} {a b c : FeedAt} → HasGiven xs a b → HasFailed ys b c → HasFailed (xs ++ ys) a c
+-- bytes that were given, and then more until a read failed
+pub failed_later : {xs ys : List ℕ} {a b c : FeedAt} → HasGiven xs a b → HasFailed ys b c → HasFailed (xs ++ ys) a c
 failed_later {xs} {ys} {a} {b} {c} first second = record {
   same_files = second.same_files ∙ first.same_files;
   same_file = second.same_file ∙ first.same_file;

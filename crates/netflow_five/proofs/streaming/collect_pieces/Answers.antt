@@ -2,20 +2,20 @@ use Rattle.std.proofs.Common.{◌≡◌, List, ℕ, [], ◌++◌, ap, length, sy
 use Rattle.std.proofs.lemmas.List.{length-append}
 use Rattle.wire_ports.specs.FeedMoments.{FeedAt, feed_at}
 use Rattle.netflow_five.proofs.Streams.{SoFar, none_so_far, more_so_far, ends_early, ends_wanting, bad_in_rest, ends_file}
-use Rattle.netflow_five.proofs.streaming.collect_file.Goals as goal
+use Rattle.netflow_five.proofs.streaming.collect_pieces.Goals as goal
 
 pub reads-init : goal.reads-init
 reads-init g c =
     let F = g.F.Feed in
     let holds = g.C.Collector.holds in
     let start : FeedAt = feed_at F.files F.left F.given F.current F.started F.faults F.failed c.args.feed.now in
-    let none : length c.clear.new.self ≡ 0 = ap length c.clear.ensures in
+    let none : length c.args.window.now ≡ 0 = ap length c.requires.empty in
     record {
       few = omega arith;
       collected = (
         [],
         [],
-        subst (λ (z : List ℕ). SoFar holds start c.args.collector.now 0 [] [] z start c.args.collector.now) (sym c.clear.ensures)
+        subst (λ (z : List ℕ). SoFar holds start c.args.collector.now 0 [] [] z start c.args.collector.now) (sym c.requires.empty)
             (none_so_far holds start c.args.collector.now c.requires.started),
       );
       stops = sym none;
@@ -30,11 +30,11 @@ returns-in-Ok-eq0-clause-file g c =
 
 pub returns-in-Err-clause-file : goal.returns-in-Err-clause-file
 returns-in-Err-clause-file g c =
-    ends_early c.reads.invariant.collected.2 _ c.reads.collector c.in-Err.end c.from.result c.reads.invariant.few c.in-Err.ensures.end c.from.ensures
+    ends_early c.reads.invariant.collected.2 _ c.in-Err.end c.from.result c.reads.invariant.few c.in-Err.ensures.end c.from.ensures
 
 pub returns-in-Err-collect_window-clause-file : goal.returns-in-Err-collect_window-clause-file
 returns-in-Err-collect_window-clause-file g c =
-    ends_wanting c.reads.invariant.collected.2 c.in-Ok.ensures.read c.reads.invariant.few c.in-Ok.ensures.most
+    ends_wanting c.reads.invariant.collected.2 c.in-Ok.ensures.read c.reads.invariant.few c.in-Ok.ensures.most c.in-Err-collect_window.ensures.some
 
 pub reads-preserved : goal.reads-preserved
 reads-preserved g c =
@@ -59,5 +59,5 @@ returns-in-Ok-pass_rest-clause-file g c =
 pub returns-in-Err-pass_rest-clause-file : goal.returns-in-Err-pass_rest-clause-file
 returns-in-Err-pass_rest-clause-file g c =
     let next = c.in-Ok-collect_window.ensures.collected in
-    ends_early (more_so_far c.reads.invariant.collected.2 c.in-Ok.ensures.read next.1) _ c.collect_window.new.collector c.in-Err-pass_rest.end
+    ends_early (more_so_far c.reads.invariant.collected.2 c.in-Ok.ensures.read next.1) _ c.in-Err-pass_rest.end
     c.from-in-Err-pass_rest.result (omega (arith, c.reads.invariant.few, c.in-Ok.ensures.most)) c.in-Err-pass_rest.ensures.end c.from-in-Err-pass_rest.ensures

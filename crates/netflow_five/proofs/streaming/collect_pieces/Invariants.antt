@@ -3,7 +3,7 @@ use Rattle.std.proofs.Common.{◌≤◌, ◌+◌, ◌-◌, ℕ, List, length}
 use Rattle.wire_ports.specs.FeedMoments.{feed_at}
 use Rattle.netflow_five.specs.Next.{StopsAt, IsShort}
 use Rattle.netflow_five.proofs.Streams.{SoFar}
-use Rattle.netflow_five.proofs.streaming.collect_file.Given as goal
+use Rattle.netflow_five.proofs.streaming.collect_pieces.Given as goal
 
 abbrev pub invariant-reads : goal.invariant-reads
 invariant-reads g l =
