@@ -7,8 +7,9 @@ use mathlib.Core.Option.{some, some-injective}
 use lib.ListN.{get_elem?}
 use Rattle.big_atomic.proofs.Balance.{balance}
 use Rattle.big_atomic.proofs.Goings.{goes_still, goes_then, held_stays, looked_before, looked_more, looked_then}
+use Rattle.big_atomic.proofs.Pacing.{paces_still, paces_then}
 use Rattle.big_atomic.proofs.Paid.{AreStill}
-use Rattle.big_atomic.specs.Calling.{Goes, IsLooked, OnlySteps, Began}
+use Rattle.big_atomic.specs.Calling.{Goes, IsLooked, OnlySteps, Began, Paces}
 use Rattle.big_atomic.specs.Calls.{Answered, HoldStays}
 use Rattle.big_atomic.specs.Ready.{IsReady}
 use Rattle.big_atomic.specs.Turns.{TurnsArePaid, changes_on, lost_steps, scan_loads}
@@ -79,6 +80,7 @@ scanned_since before v steps sound since trail scan = record {
 pub record MayEnd (reg look q : ℕ) (call : Call) (reply : Reply) (steps : List Counted) (before now : SeatData) : Type 0 where
   pub goes : Goes reg None steps before now
   pub looked : IsLooked reg steps look before now
+  pub paced : Paces 0 1 steps
   pub first : IsSeat before
   pub there : IsThere now.view.plan call
   pub on : cell_of now.view.plan call ≡ reg
@@ -243,6 +245,9 @@ answered_now {reg = reg} {look = look} {q = q} {call = call} {reply = reply} {st
     let reads : reading q call reply mid ≡ reading q call reply now.view = ap (λ (z : View). reading q call reply z) e.view in
     let sound = last.sound in
     let within = sound.within in
+    let paced : Paces 0 1 (steps ++ clear) = paces_then m.paced (paces_still 1 clear e.still) in
+    let rounds = paced.rounds in
+    let tries = paced.tries in
     let stands : after.view.stands ≡ before.view.stands ++ reading q call reply now.view ∷ [] =
     ap (λ (z : View). z.stands) view ∙ (λ i. ap (λ (z : View). z.stands) all.only i ++ reads i ∷ []) in
     let goes_on : GoesOn before.view.seen after.view.seen = subst (λ (l : List Entry). GoesOn before.view.seen l) (sym seen) all.seen in
@@ -281,6 +286,8 @@ answered_now {reg = reg} {look = look} {q = q} {call = call} {reply = reply} {st
         };
         paid = subst (λ (l : List Entry). TurnsArePaid before.view.plan reg (number before.view) l None (steps ++ clear)) (sym seen) all.paid;
         few = subst (λ (l : List Entry). lost_steps (steps ++ clear) ≤ changes_on before.view.plan reg (number before.view) (drop look l)) (sym seen) looks.few;
+        rounds = omega arith;
+        tries = omega arith;
       };
       steps_are = refl;
       stand_is = refl;

@@ -4,6 +4,7 @@ use Rattle.std.proofs.Math.Seq.{drop-append_seam}
 use Rattle.std.proofs.lemmas.Bool.{false≢true}
 use Rattle.big_atomic.proofs.Deciding.{first_at, store_agrees, store_gives, swap_gives}
 use Rattle.big_atomic.proofs.Goings.{calling_then}
+use Rattle.big_atomic.proofs.Pacing.{paces_then}
 use Rattle.big_atomic.proofs.Paid.{exchanges-append, scan_loads-append}
 use Rattle.big_atomic.proofs.Refusing.{changed_unlike}
 use Rattle.big_atomic.specs.Calling.{Began, Goes, HasClaimedRecord, HasSeen, HasTried, tried_at}
@@ -38,14 +39,14 @@ module _ {shared : ObjectData} {reg : ℕ} (old new : List ℕ) {before : SeatDa
   abbrev swap_begun : ℕ → Begun shared reg new Yes (Swap reg old new)
   swap_begun look = record { gives = swap_gives reg old new old_wide wide; before = before; began = began; look = look; once = true }
 
-  swap_first : {word lost : ℕ} {now : SeatData} (s : HasSeen BACK reg word before now) → length s.steps ≡ 3 → lost_steps s.steps ≤ lost → IsSeat now → AtTurn (swap_begun (tried_at reg now.view)) lost 3 now
-  swap_first {now = now} s three low law =
+  swap_first : {word claims lost : ℕ} {now : SeatData} (s : HasSeen BACK reg word claims before now) → claims ≤ 1 → length s.steps ≡ 3 → lost_steps s.steps ≤ lost → IsSeat now → AtTurn (swap_begun (tried_at reg now.view)) lost 3 now
+  swap_first {now = now} s serves three low law =
       let none = s.looks.none_exchanged in
-      first_at {b = swap_begun (tried_at reg now.view)} s (sym (looked_back (s.goes None) three s.looked.looked)) (λ _. record { lost_most = omega arith; tried_most = omega arith; most = omega arith }) law
+      first_at {b = swap_begun (tried_at reg now.view)} s serves (sym (looked_back (s.goes None) three s.looked.looked)) (λ _. record { lost_most = omega arith; tried_most = omega arith; most = omega arith }) law
 
   pub swap_starts : {word : ℕ} {now : SeatData} → HasTried BACK reg (Same word) before now → IsSeat now
       → (b : Begun shared reg new Yes (Swap reg old new)) × IsOnce (tried_at reg now.view) b × (b.before ≡ before) × HasClaimedNode b word now
-  swap_starts {now = now} t law = (swap_begun (tried_at reg now.view), record { look_is = refl; once = refl }, refl, record { at = swap_first t.0 t.1 (let none = t.2 in omega arith) law; claim = t.3 })
+  swap_starts {now = now} t law = (swap_begun (tried_at reg now.view), record { look_is = refl; once = refl }, refl, record { at = swap_first t.0 (omega arith) t.1 (let none = t.2 in omega arith) law; claim = t.3 })
 
   -- others changed the register since
   pub swap_late : {word : ℕ} {now : SeatData} → HasTried BACK reg (Other word) before now → IsSeat now
@@ -54,7 +55,7 @@ module _ {shared : ObjectData} {reg : ℕ} (old new : List ℕ) {before : SeatDa
     swap_begun (tried_at reg now.view),
     record { look_is = refl; once = refl },
     refl,
-    changed_unlike (swap_first t.0 t.1 t.2 law) (omega arith) (omega arith)
+    changed_unlike (swap_first t.0 (omega arith) t.1 t.2 law) (omega arith) (omega arith)
         (let is : tried_at reg now.view ≡ t.0.look = looked_back (t.0.goes None) t.1 t.0.looked.looked in omega arith) t.3,
   )
 
@@ -66,13 +67,13 @@ store_starts {shared = shared} {reg = reg} {rec = rec} {new = new} {before = bef
       b,
       refl,
       refl,
-      record { at = first_at {b = b} h.0.0 refl (λ e. absurd (false≢true e)) law; claim = h.0.1; there = h.1; agrees = store_agrees reg rec new },
+      record { at = first_at {b = b} h.0.0 (omega arith) refl (λ e. absurd (false≢true e)) law; claim = h.0.1; there = h.1; agrees = store_agrees reg rec new },
     )
 
 -- after a lost turn its register's node was claimed anew
 module _ {shared : ObjectData} {reg word seen : ℕ} {rec new : List ℕ} {b : Begun shared reg new Done (Store reg new)} {mid now : SeatData}
     (l : HasLostTurn b seen mid) (any : b.once ≡ false) (h : HasClaimedRecord BACK reg word rec mid now) (law : IsSeat now) where
-  abbrev s : HasSeen BACK reg word mid now
+  abbrev s : HasSeen BACK reg word 1 mid now
   s = h.0.0
 
   tried : 0 < exchanges (l.at.past.steps ++ s.steps)
@@ -84,6 +85,7 @@ module _ {shared : ObjectData} {reg word seen : ℕ} {rec new : List ℕ} {b : B
         past = record {
           steps = p.steps ++ s.steps;
           calling = calling_then p.calling (s.goes (Some (length mid.view.seen))) (s.stays.others HOLD (λ e. absurd (omega arith)));
+          paced = paces_then l.paced s.paced;
           scans =
               let none = s.looks.none_scanned in
               ⊎_elim (λ e. inl (omega (arith, scan_loads-append p.steps s.steps))) (λ e. let all = e.0 in inr (omega (arith, scan_loads-append p.steps s.steps), e.1)) p.scans;

@@ -8,10 +8,11 @@ use Rattle.std.proofs.Math.Seq.{drop-append_seam, take-append_seam}
 use mathlib.Core.Option.{some}
 use lib.ListN.{get_elem?}
 use Rattle.big_atomic.proofs.Goings.{LooksAt, found_at_look, goes_look, goes_lost, goes_still, goes_then, looked_then, looks_at, moved_since}
+use Rattle.big_atomic.proofs.Pacing.{paces_still, paces_then}
 use Rattle.big_atomic.proofs.Paid.{AreStill, exchanges-append, scan_loads-append, still_exchanges}
-use Rattle.big_atomic.specs.Calling.{AreLooks, Goes, HasClaim, HasClaimed, HasClaimedRecord, HasFound, HasRead, HasSeen, HasTried, HasTurned, LookedOnce, OnlySteps, Stays, TurnedOnce, turn_steps}
+use Rattle.big_atomic.specs.Calling.{AreLooks, Goes, HasClaim, HasClaimed, HasClaimedRecord, HasFound, HasRead, HasSeen, HasTried, HasTurned, LookedOnce, OnlySteps, Paces, Stays, TurnedOnce, turn_steps}
 use Rattle.big_atomic.specs.Calls.{register_at}
-use Rattle.big_atomic.specs.Turns.{lost_steps, scan_loads}
+use Rattle.big_atomic.specs.Turns.{claim_rounds, is_claim_round, lost_steps, scan_loads}
 use Rattle.hazard_claims.proofs.Rechecking.{stands_told}
 use Rattle.hazard_claims.specs.Claiming.{IsAnnounced, Rechecked, claim_number}
 use Rattle.hazard_claims.specs.declared.claims.Claim.{Claim as Which}
@@ -189,7 +190,7 @@ turned which reg seen (Same word) old mid new t r =
 turned which reg seen (Other word) old mid new t r = turned_other which reg seen old mid new t word r.answers.0 r.answers.1 r.same
 
 -- what a look alone has seen
-pub seen_first : (c reg word : ℕ) (before now : SeatData) → LookedOnce reg word before now → HasSeen c reg word before now
+pub seen_first : (c reg word : ℕ) (before now : SeatData) → LookedOnce reg word before now → HasSeen c reg word 0 before now
 seen_first c reg word before now f =
     let g : Goes reg None (counted (BackupLoad reg) word (length now.view.seen) ∷ []) before now = f.0 None in record {
       steps = counted (BackupLoad reg) word (length now.view.seen) ∷ [];
@@ -202,18 +203,29 @@ seen_first c reg word before now f =
         few = omega arith;
       };
       looks = record { none_exchanged = refl; none_scanned = refl };
+      paced = record { rounds = omega arith; tries = omega arith };
       stays = f.1 c;
       found = f.2;
     }
 
--- looks, and then one more turn
-pub seen_further : {c reg seen word : ℕ} {before mid now : SeatData} → HasSeen c reg seen before mid → TurnedOnce c reg seen word mid now → HasSeen c reg word before now
-seen_further {c} {reg} {seen} {word} {before} {mid} {now} s t = record {
+-- a turn is one claim round at most
+turn_round : (c reg seen word : ℕ) (before now : SeatData) → claim_rounds (turn_steps c reg seen word before now) ≤ 1
+turn_round c reg seen word before now = by (is_claim_round (Recheck c reg seen))
+  where
+    by : (b : Bool) → length (cond b (counted (Recheck c reg seen) word (length now.view.seen) ∷ []) []) ≤ 1
+    by true = omega arith
+    by false = omega arith
+
+-- looks, and then one more turn, whose claim serves where no step was lost
+pub seen_further : {c reg seen word claims : ℕ} {before mid now : SeatData} → HasSeen c reg seen 0 before mid → TurnedOnce c reg seen word mid now
+    → 1 ≤ lost_steps (turn_steps c reg seen word mid now) + claims → HasSeen c reg word claims before now
+seen_further {c} {reg} {seen} {word} {claims} {before} {mid} {now} s t serves = record {
   steps = s.steps ++ turn_steps c reg seen word mid now;
   look = s.look;
   goes = λ found. goes_then (s.goes found) t.goes;
   looked = looked_then (s.goes None) s.looked t.goes;
   looks = looks_then s.steps (turn_steps c reg seen word mid now) s.looks (record { none_exchanged = refl; none_scanned = refl });
+  paced = paces_then {mid = 0} s.paced (let one = turn_round c reg seen word mid now in record { rounds = omega arith; tries = omega arith });
   stays = stays_then c before mid now s.stays t.stays;
   found = t.found;
 }
@@ -233,10 +245,10 @@ none_later p k n a b low on none =
 -- a look, and one turn
 pub tried : (c reg seen : ℕ) (answer : Answer) (before mid now : SeatData) → LookedOnce reg seen before mid → HasTurned c reg seen answer mid now → HasTried c reg answer before now
 unfolding seen_first seen_further
-tried c reg seen (Same word) before mid now f t = (seen_further (seen_first c reg seen before mid f) t.0, refl, t.1, t.2)
+tried c reg seen (Same word) before mid now f t = (seen_further (seen_first c reg seen before mid f) t.0 (let none = t.1 in omega arith), refl, t.1, t.2)
 tried c reg seen (Other word) before mid now f t =
     let s = seen_first c reg seen before mid f in (
-      seen_further s t.0,
+      seen_further s t.0 (let one = t.1 in omega arith),
       refl,
       omega (arith, t.1),
       λ none. t.2 (none_later now.view.plan reg (length mid.view.seen) mid.view.seen now.view.seen (omega arith) t.0.goes.seen none),
@@ -301,6 +313,7 @@ claimed_read {c} {reg} {word} {rec} {before} {mid} {now} tells there h r sound =
           goes = λ found. goes_then (s.goes found) reads;
           looked = looked_then g s.looked reads;
           looks = looks_then s.steps steps s.looks (record { none_exchanged = still_exchanges steps still; none_scanned = loads_unscanned (word / 2) 0 (length mid.view.seen) r.words });
+          paced = paces_then s.paced (paces_still 1 steps still);
           stays = stays_then c before mid now s.stays (record {
             same = only_stepped mid now same;
             retired = ap (λ (z : SeatData). z.view.retired) same;

@@ -6,8 +6,9 @@ use Rattle.big_atomic.proofs.Answered.{EndsAs, MayEnd, clear_step, ended_as, rig
 use Rattle.big_atomic.proofs.Balance.{CostsNone, nodes_stay}
 use Rattle.big_atomic.proofs.Claimed.{claim_stays, loads_length, loads_still, loads_unscanned, looks_then, read_goes, record_read}
 use Rattle.big_atomic.proofs.Goings.{calling_then}
+use Rattle.big_atomic.proofs.Pacing.{paces_still, paces_then, paces_within}
 use Rattle.big_atomic.proofs.Paid.{costs_then, costs_within, exchanges-append, scan_loads-append, still_exchanges, still_lost}
-use Rattle.big_atomic.proofs.Scanning.{scan_all, scan_few, scan_goes, scan_lost, scan_seen, scan_tried, scan_view}
+use Rattle.big_atomic.proofs.Scanning.{scan_all, scan_few, scan_goes, scan_lost, scan_paced, scan_seen, scan_tried, scan_view}
 use Rattle.big_atomic.specs.Calling.{Costs, HasClaim, HasRead, HasRoom, HasSeen, IsLooked}
 use Rattle.big_atomic.specs.Calls.{IsFirstUnlike, IsStored, IsSwapped, ScansForWant, register_at, store_reply, swap_reply}
 use Rattle.big_atomic.specs.Giving.{Agrees, AtTurn, Begun, Gives, HasClaimedNode, HasDecided, HasTold, OnlyLooked, Past}
@@ -91,8 +92,8 @@ costs_none g rs = (ap (λ (e : Edit). cost_of (length rs) e) (g.edits rs), ap (�
 module _ {shared : ObjectData} {reg : ℕ} {new : List ℕ} {done : Reply} {call : Call} where
   module _ {b : Begun shared reg new done call} where
     -- A CALL BEGAN WITH LOOKS
-    pub first_at : {word lost most : ℕ} {now : SeatData} (s : HasSeen BACK reg word b.before now) → s.look ≡ b.look → (b.once ≡ true → Costs lost (2 * lost) most s.steps) → IsSeat now → AtTurn b lost most now
-    first_at {now = now} s is spent law = record {
+    pub first_at : {word claims lost most : ℕ} {now : SeatData} (s : HasSeen BACK reg word claims b.before now) → claims ≤ 1 → s.look ≡ b.look → (b.once ≡ true → Costs lost (2 * lost) most s.steps) → IsSeat now → AtTurn b lost most now
+    first_at {now = now} s serves is spent law = record {
       past = record {
         steps = s.steps;
         calling = record {
@@ -100,6 +101,7 @@ module _ {shared : ObjectData} {reg : ℕ} {new : List ℕ} {done : Reply} {call
           looked = subst (λ (n : ℕ). IsLooked reg s.steps n b.before now) is s.looked;
           hold = s.stays.others HOLD (λ e. absurd (omega arith));
         };
+        paced = paces_within s.paced serves;
         scans = inl s.looks.none_scanned;
         walk = ap (λ (y : Claim). y.word) (s.stays.others WALK (λ e. absurd (omega arith))) ∙ b.began.ready.walk;
         own = ap (λ (y : Claim). y.word) (s.stays.others OWN (λ e. absurd (omega arith))) ∙ b.began.ready.own;
@@ -121,6 +123,7 @@ module _ {shared : ObjectData} {reg : ℕ} {new : List ℕ} {done : Reply} {call
     past_within p low few = record {
       steps = p.steps;
       calling = p.calling;
+      paced = p.paced;
       scans = p.scans;
       walk = p.walk;
       own = p.own;
@@ -155,6 +158,7 @@ module _ {shared : ObjectData} {reg : ℕ} {new : List ℕ} {done : Reply} {call
       read_past = record {
         steps = p.steps ++ loads;
         calling = calling_then p.calling (read_goes reg (word / 2) r.words mid now r.read law.sound) (ap (λ (z : View). claim_of HOLD z) read_view);
+        paced = paces_then p.paced (paces_still 1 loads (loads_still (word / 2) 0 (length mid.view.seen) r.words));
         scans =
             let none = loads_unscanned (word / 2) 0 (length mid.view.seen) r.words in
             ⊎_elim (λ e. inl (omega (arith, scan_loads-append p.steps loads))) (λ e. let all = e.0 in inr (omega (arith, scan_loads-append p.steps loads), e.1)) p.scans;
@@ -202,6 +206,7 @@ module _ {shared : ObjectData} {reg : ℕ} {new : List ℕ} {done : Reply} {call
       tells q reply late right full = record {
         goes = t.past.calling.goes;
         looked = t.past.calling.looked;
+        paced = t.past.paced;
         first = b.began.ready.law;
         there = b.gives.inside now.view.plan (there_now t.past);
         on = b.gives.on now.view.plan;
@@ -296,6 +301,7 @@ module _ {shared : ObjectData} {reg : ℕ} {new : List ℕ} {done : Reply} {call
         past = record {
           steps = p.steps ++ scan;
           calling = calling_then p.calling (scan_goes s p.law law reg) (s.claims HOLD (λ e. absurd (omega arith)));
+          paced = paces_then p.paced (scan_paced s p.law law 1);
           scans = inr (omega (arith, scan_loads-append p.steps scan, scan_all s p.law law), omega (arith, ap (length {A = ℕ}) o.free, ap (length {A = ℕ}) none));
           walk = s.walk_none;
           own = ap (λ (y : Claim). y.word) (s.claims OWN (λ e. absurd (omega arith))) ∙ p.own;

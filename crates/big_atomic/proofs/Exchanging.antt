@@ -1,7 +1,7 @@
 -- An exchange of a cell's backup: won, or lost, or tried once more where only the mark was cleared.
-use Rattle.std.proofs.Common.{◌≡◌, ◌≢◌, ◌∙◌, ℕ, ◌/◌, ◌≤◌, Bool, not, cond, eq-eqb, List, [], ◌∷◌, ◌++◌, Some, length, drop, refl, sym, ap, subst, arith, inl}
+use Rattle.std.proofs.Common.{◌≡◌, ◌≢◌, ◌∙◌, ℕ, ◌/◌, ◌≤◌, Bool, not, cond, eq-eqb, ne_eqb, List, [], ◌∷◌, ◌++◌, Some, length, drop, refl, sym, ap, subst, arith, inl}
 use Rattle.big_atomic.proofs.Claimed.{none_later}
-use Rattle.big_atomic.proofs.Goings.{found_at_look, goes_look, goes_lost, goes_none, goes_then, looks_at, moved_since, seen_on, lost_most}
+use Rattle.big_atomic.proofs.Goings.{found_at_look, goes_look, goes_lost, goes_none, goes_then, looks_at, moved_since, seen_on}
 use Rattle.big_atomic.proofs.Paid.{lost-append}
 use Rattle.big_atomic.specs.Calling.{Goes, HasFound, HasLost, HasWon}
 use Rattle.big_atomic.specs.Installing.{HasNear}
@@ -82,8 +82,8 @@ module _ {reg word node x : ℕ} {u w : SeatData} (sees : Sees (BackupExchange r
   pub near_kept : x / 2 ≡ word / 2 → lost_steps (tried ∷ []) ≡ 0
   near_kept near = ap (λ (b : Bool). length (cond (not b) (tried ∷ []) [])) (eq-eqb (x / 2) (word / 2) near)
 
-  pub far_lost : lost_steps (tried ∷ []) ≤ 1
-  far_lost = lost_most tried
+  pub far_lost : x / 2 ≢ word / 2 → lost_steps (tried ∷ []) ≡ 1
+  far_lost far = ap (λ (b : Bool). length (cond (not b) (tried ∷ []) [])) (ne_eqb (x / 2) (word / 2) far)
 
 -- the seat holds the same front, and the same nodes fall out
 pub front_again : {reg word node x : ℕ} (call : Call) {u w : SeatData} → Sees (BackupExchange reg word node) reg x u w → HoldsFront node call u → HoldsFront node call w
@@ -99,7 +99,7 @@ won_first {reg} {word} {u} first last won = record {
   tries = [];
   mid = u;
   found = word;
-  retried = record { goes = goes_none reg u first; none_lost = refl; none_scanned = refl; few = omega arith; view = refl; same = refl };
+  retried = record { goes = goes_none reg u first; none_lost = refl; none_claimed = refl; none_scanned = refl; few = omega arith; view = refl; same = refl };
   near = refl;
   won = won;
   sound = last;
@@ -108,19 +108,21 @@ won_first {reg} {word} {u} first last won = record {
 -- it was lost at once
 pub lost_first : {reg word node x : ℕ} {u w : SeatData} → Sound u.view → Sound w.view → HasNear reg word u.view → x / 2 ≢ word / 2 → Sees (BackupExchange reg word node) reg x u w
     → HasLost reg word x u w
-lost_first {reg} {u} {w} first last found far sees = record {
-  tries = tried sees ∷ [];
-  goes = far_goes sees found far first last;
-  one_lost = far_lost sees;
-  some_tried = omega arith;
-  none_scanned = refl;
-  few = omega arith;
-  view = tried_only sees;
-  same = sees.same;
-  changed = subst (λ (p : Plan). ¬ NoneOn p reg (drop (length u.view.seen) w.view.seen)) (sym (ap (λ (z : View). z.plan) (tried_view sees))) (far_changed sees found far);
-  found = tried_found sees;
-  far = far;
-}
+lost_first {reg} {u} {w} first last found far sees =
+    let one = far_lost sees far in record {
+      tries = tried sees ∷ [];
+      goes = far_goes sees found far first last;
+      one_lost = omega arith;
+      paced = record { rounds = omega arith; tries = omega arith };
+      some_tried = omega arith;
+      none_scanned = refl;
+      few = omega arith;
+      view = tried_only sees;
+      same = sees.same;
+      changed = subst (λ (p : Plan). ¬ NoneOn p reg (drop (length u.view.seen) w.view.seen)) (sym (ap (λ (z : View). z.plan) (tried_view sees))) (far_changed sees found far);
+      found = tried_found sees;
+      far = far;
+    }
 
 -- since a look under the seat's Back claim that finds the claim's node, the history has no entry on the cell
 calm_now : {reg word node x : ℕ} {call : Call} {u w : SeatData} → Sound u.view → (may : MayExchange reg word node call u.view)
@@ -146,6 +148,7 @@ module _ {reg word node x : ℕ} {u m : SeatData} (first : Sound u.view) (middle
     retried = record {
       goes = near_goes sees near first middle;
       none_lost = near_kept sees near;
+      none_claimed = refl;
       none_scanned = refl;
       few = omega arith;
       view = tried_only sees;
@@ -178,11 +181,12 @@ module _ {reg word node x : ℕ} {u m : SeatData} (first : Sound u.view) (middle
       let twice : List Counted = tried again ∷ [] in
       let changed = far_changed again found_again far in
       let kept = near_kept sees near in
-      let few = far_lost again in
+      let one = far_lost again far in
       record {
         tries = once ++ twice;
         goes = goes_then (near_goes sees near first middle) (far_goes again found_again far middle last);
         one_lost = omega (arith, lost-append once twice);
+        paced = record { rounds = omega (arith, lost-append once twice); tries = omega (arith, lost-append once twice) };
         some_tried = omega arith;
         none_scanned = refl;
         few = omega arith;

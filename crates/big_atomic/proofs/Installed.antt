@@ -5,9 +5,10 @@ use Rattle.big_atomic.proofs.Answered.{goes_of}
 use Rattle.big_atomic.proofs.Claimed.{lost_longer}
 use Rattle.big_atomic.proofs.Ending.{EndsBy, EndsWalk, clearing, cleared_word, ends_one, ends_then, ends_walk, released_else, released_ours, released_word}
 use Rattle.big_atomic.proofs.Goings.{calling_then, goes_still, goes_then}
+use Rattle.big_atomic.proofs.Pacing.{paces_still, paces_then}
 use Rattle.big_atomic.proofs.Paid.{costs_then, costs_within, exchanges-append, lost-append, scan_loads-append}
 use Rattle.big_atomic.proofs.Winning.{WonCall, all_steps, exchanges_most, stand, won_costs, won_ready, won_records, won_scanned, won_tried}
-use Rattle.big_atomic.specs.Calling.{Calling, Costs, Goes, HasLost, OnlySteps}
+use Rattle.big_atomic.specs.Calling.{Calling, Costs, Goes, HasLost, OnlySteps, Paces}
 use Rattle.big_atomic.specs.Installing.{Exchanged, HasInstalled, HasMoved, HasNear, MayInstall}
 use Rattle.big_atomic.specs.Ready.{IsReady}
 use Rattle.big_atomic.specs.Turns.{exchanges, lost_steps, scan_loads}
@@ -149,6 +150,7 @@ pub record LostInstall (cell : ℕ) (before after : SeatData) : Type 0 where
   pub steps : List Counted
   pub goes : Goes cell (Some (length before.view.seen)) steps before after
   pub one_lost : lost_steps steps ≤ 1
+  pub paced : Paces 1 0 steps
   pub some_tried : 0 < exchanges steps
   pub none_scanned : scan_loads steps ≡ 0
   pub twice : exchanges steps ≤ 2
@@ -192,6 +194,7 @@ module _ {cell seen node word : ℕ} {before after : SeatData} (m : HasMoved cel
       record {
         steps = lost_all;
         goes = goes_then (announce_goes node before u m.announces m.sound cell) (goes_then m.lost.goes clear_goes);
+        paced = paces_then (paces_still 1 first refl) (paces_then m.lost.paced (paces_still 0 cleared refl));
         one_lost = omega (arith, lost-append first (m.lost.tries ++ cleared), lost-append m.lost.tries cleared);
         some_tried = omega (arith, exchanges-append first (m.lost.tries ++ cleared), exchanges-append m.lost.tries cleared);
         none_scanned = omega (arith, scan_loads-append first (m.lost.tries ++ cleared), scan_loads-append m.lost.tries cleared);
@@ -217,6 +220,7 @@ pub record EndsChange (shared : ObjectData) (cell seen node : ℕ) (call : Call)
   pub on : cell_of before.view.plan call ≡ cell
   pub keeps : (c : Contents) (held : Option (List ℕ)) → held_after c held call ≡ held
   pub calling : Calling cell steps look before now
+  pub paced : Paces 0 1 steps
   pub installed : HasInstalled cell seen node call now after
   pub walk : ClearsWalk after walked
   pub back : IsReleased Back walked final
@@ -243,6 +247,7 @@ module _ {shared : ObjectData} {cell seen node : ℕ} {call : Call} {steps : Lis
   pub won_change : WonCall cell seen node call before_exchange clears look before h.announced h.exchanged final
   won_change = record {
     calling = calling_then e.calling (announce_goes node now h.announced h.announces h.sound cell) (announce_else node now h.announced h.announces HOLD (λ q. absurd (omega arith)));
+    paced = paces_then e.paced (paces_still 1 (announce_step node now h.announced h.announces) refl);
     won = h.won;
     ended = ends;
     first = e.first;

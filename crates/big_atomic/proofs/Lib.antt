@@ -15,6 +15,7 @@ pub mod Installed
 pub mod Jobs
 pub mod Lines
 pub mod Missing
+pub mod Pacing
 pub mod Paid
 pub mod Preparing
 pub mod Reading

@@ -7,7 +7,7 @@ use Rattle.std.proofs.lemmas.List.Elements.{filter-append}
 use Rattle.std.proofs.Math.Seq.{drop-append_seam}
 use mathlib.Core.Option.{some}
 use lib.ListN.{get_elem?}
-use Rattle.big_atomic.specs.Turns.{IsPaid, TurnsArePaid, changes_on, exchanges, is_exchange, is_lost, is_lost_by, is_scan_load, last_look, lost_steps, scan_loads}
+use Rattle.big_atomic.specs.Turns.{IsPaid, TurnsArePaid, changes_on, claim_rounds, exchanges, is_claim_round, is_exchange, is_lost, is_lost_by, is_scan_load, last_look, lost_steps, scan_loads}
 use Rattle.seat_history.specs.declared.entry.Entry.{Entry}
 use Rattle.step_rules.proofs.Numbers.Places.{at_behind}
 use Rattle.step_rules.proofs.Numbers.Sets.{has_first}
@@ -30,6 +30,9 @@ exchanges-append a b = ap length (filter-append (λ (step : Counted). is_exchang
 
 pub lost-append : (a b : List Counted) → lost_steps (a ++ b) ≡ lost_steps a + lost_steps b
 lost-append a b = ap length (filter-append is_lost a b) ∙ length-append _ _
+
+pub rounds-append : (a b : List Counted) → claim_rounds (a ++ b) ≡ claim_rounds a + claim_rounds b
+rounds-append a b = ap length (filter-append (λ (step : Counted). is_claim_round step.kind) a b) ∙ length-append _ _
 
 pub scan_loads-append : (a b : List Counted) → scan_loads (a ++ b) ≡ scan_loads a + scan_loads b
 scan_loads-append a b = ap length (filter-append (λ (step : Counted). is_scan_load step.kind) a b) ∙ length-append _ _
@@ -143,22 +146,22 @@ still_looks k (InlineStore cell j word) e = refl
 still_looks k (VersionRelease cell version) e = refl
 still_looks k (MarkClear cell node) e = refl
 
-still_kept : (kind : Kind) (found : ℕ) → still kind ≡ true → (is_lost_by kind found ≡ false) × (is_exchange kind ≡ false)
-still_kept (NodeStore node j word) found e = (refl, refl)
-still_kept (NodeLoad node j) found e = (refl, refl)
+still_kept : (kind : Kind) (found : ℕ) → still kind ≡ true → (is_lost_by kind found ≡ false) × (is_exchange kind ≡ false) × (is_claim_round kind ≡ false)
+still_kept (NodeStore node j word) found e = (refl, refl, refl)
+still_kept (NodeLoad node j) found e = (refl, refl, refl)
 still_kept (BackupLoad cell) found e = absurd (false≢true e)
 still_kept (BackupExchange cell seen node) found e = absurd (false≢true e)
-still_kept (ClaimStore claim node) found e = (refl, refl)
+still_kept (ClaimStore claim node) found e = (refl, refl, refl)
 still_kept (Recheck claim cell seen) found e = absurd (false≢true e)
-still_kept (ClaimClear claim) found e = (refl, refl)
-still_kept (ScanLoad word) found e = (refl, refl)
-still_kept (VersionLoad cell) found e = (refl, refl)
-still_kept (InlineLoad cell j) found e = (refl, refl)
-still_kept (VersionAgain cell) found e = (refl, refl)
-still_kept (VersionLock cell version) found e = (refl, refl)
-still_kept (InlineStore cell j word) found e = (refl, refl)
-still_kept (VersionRelease cell version) found e = (refl, refl)
-still_kept (MarkClear cell node) found e = (refl, refl)
+still_kept (ClaimClear claim) found e = (refl, refl, refl)
+still_kept (ScanLoad word) found e = (refl, refl, refl)
+still_kept (VersionLoad cell) found e = (refl, refl, refl)
+still_kept (InlineLoad cell j) found e = (refl, refl, refl)
+still_kept (VersionAgain cell) found e = (refl, refl, refl)
+still_kept (VersionLock cell version) found e = (refl, refl, refl)
+still_kept (InlineStore cell j word) found e = (refl, refl, refl)
+still_kept (VersionRelease cell version) found e = (refl, refl, refl)
+still_kept (MarkClear cell node) found e = (refl, refl, refl)
 
 pub still_parts : (s : Counted) (r : List Counted) → AreStill (s ∷ r) → (still s.kind ≡ true) × AreStill r
 still_parts s r e = go (still s.kind) refl e
@@ -181,6 +184,13 @@ still_exchanges (s ∷ r) e =
     let h = still_parts s r e in
     let rest = filter (λ (step : Counted). is_exchange step.kind) r in
     ap (λ (b : Bool). length (cond b (s ∷ rest) rest)) (still_kept s.kind s.found h.0).1 ∙ still_exchanges r h.1
+
+pub still_rounds : (steps : List Counted) → AreStill steps → claim_rounds steps ≡ 0
+still_rounds [] e = refl
+still_rounds (s ∷ r) e =
+    let h = still_parts s r e in
+    let rest = filter (λ (step : Counted). is_claim_round step.kind) r in
+    ap (λ (b : Bool). length (cond b (s ∷ rest) rest)) (still_kept s.kind s.found h.0).2 ∙ still_rounds r h.1
 
 pub still_first : (k : ℕ) (steps : List Counted) → AreStill steps → first_look k steps ≡ None
 still_first k [] e = refl

@@ -1,7 +1,7 @@
 -- How a free node is taken and filled.
 use Rattle.std.proofs.Common.{◌≡◌, ◌∙◌, ℕ, suc, true, List, [], ◌∷◌, ◌++◌, length, append_assoc, length-append, refl, sym, ap, subst, arith}
 use Rattle.big_atomic.proofs.Goings.{goes_still}
-use Rattle.big_atomic.proofs.Paid.{AreStill, still_exchanges, still_lost}
+use Rattle.big_atomic.proofs.Paid.{AreStill, still_exchanges, still_lost, still_rounds}
 use Rattle.big_atomic.specs.Calling.{HoldsFilled, OnlySteps}
 use Rattle.big_atomic.specs.Turns.{scan_loads}
 use Rattle.node_pool.proofs.Taken.{has_added}
@@ -77,6 +77,7 @@ module _ {node : ℕ} {words : List ℕ} {before taken now : SeatData} (p : Fill
         (ap (λ (z : SeatData). z.first) p.fills.same ∙ ap (λ (z : SeatData). z.first) p.takes.same) (stock_stays one last) last.sound;
     looks = record { none_exchanged = still_exchanges steps steps_still; none_scanned = stores_unscanned node 0 at words };
     none_lost = still_lost steps steps_still;
+    none_claimed = still_rounds steps steps_still;
     few = omega (arith, stores_length node 0 at words, ap length is, length-append rec (0 ∷ []));
     free = subst (λ (l : List ℕ). IsWithout node before.free l) (sym free) p.takes.free;
     holding = held;

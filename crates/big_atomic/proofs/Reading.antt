@@ -59,7 +59,7 @@ has_read {reg = reg} ready there claimed = record {
 }
 
 module _ {c reg word : ℕ} {rec : List ℕ} {before now : SeatData} (r : HasReadRegister c reg word rec before now) where
-  abbrev seen : HasSeen c reg word before now
+  abbrev seen : HasSeen c reg word 1 before now
   seen = r.claimed.0.0
 
   abbrev claim : HasClaim c reg word now
@@ -83,6 +83,7 @@ module _ {c reg word : ℕ} {rec : List ℕ} {before now : SeatData} (r : HasRea
   ends call reply there on right other = record {
     goes = goes;
     looked = seen.looked;
+    paced = seen.paced;
     first = r.first;
     there = there;
     on = on now.view.plan;

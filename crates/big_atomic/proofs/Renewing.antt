@@ -7,9 +7,10 @@ use Rattle.big_atomic.proofs.Deciding.{HasRoomFor, past_ours, there_now}
 use Rattle.big_atomic.proofs.Ending.{released_else}
 use Rattle.big_atomic.proofs.Goings.{calling_then}
 use Rattle.big_atomic.proofs.Installed.{EndsChange, LostInstall, announce_else, change_costs, change_ready, change_scanned, change_tried, lost_install, no_lock, won_change}
+use Rattle.big_atomic.proofs.Pacing.{paces_then, paces_within}
 use Rattle.big_atomic.proofs.Paid.{costs_then, costs_within, exchanges-append, lost-append, scan_loads-append}
 use Rattle.big_atomic.proofs.Winning.{all_steps, has_won, won_reply, won_stays}
-use Rattle.big_atomic.specs.Calling.{Calling, Costs, HoldsFilled}
+use Rattle.big_atomic.specs.Calling.{Calling, Costs, HoldsFilled, Paces}
 use Rattle.big_atomic.specs.Calls.{ScansForWant}
 use Rattle.big_atomic.specs.Giving.{Begun, HasLostTurn, HasTold, Past}
 use Rattle.big_atomic.specs.Installing.{HasInstalled, HasMoved, MayInstall}
@@ -129,6 +130,10 @@ module _ {shared : ObjectData} {reg : ℕ} {new : List ℕ} {done : Reply} {call
   calling : Calling reg steps b.look b.before w
   calling = calling_then r.past.calling (f.goes reg) (ap (λ (z : View). claim_of HOLD z) f.view)
 
+  -- its claim still serves
+  paced : Paces 0 1 steps
+  paced = let none = f.none_claimed in let none_tried = f.looks.none_exchanged in paces_then {mid = 1} r.past.paced (record { rounds = omega arith; tries = omega arith })
+
   spent : b.once ≡ true → Costs 0 0 (2 * WIDTH + 7 + 4 * b.before.view.plan.seats) steps
   spent once = let few = f.few in costs_then f.steps (r.past.spent once) f.none_lost f.looks.none_exchanged (omega arith)
 
@@ -143,6 +148,9 @@ module _ {shared : ObjectData} {reg : ℕ} {new : List ℕ} {done : Reply} {call
 
     abbrev lost_all : List Counted
     lost_all = steps ++ l.steps
+
+    paced_lost : Paces 0 0 lost_all
+    paced_lost = paces_then paced l.paced
 
     tried : 0 < exchanges lost_all
     tried = let some = l.some_tried in omega (arith, exchanges-append steps l.steps)
@@ -159,6 +167,7 @@ module _ {shared : ObjectData} {reg : ℕ} {new : List ℕ} {done : Reply} {call
     lost_past = record {
       steps = lost_all;
       calling = calling_then calling l.goes (l.others HOLD (λ e. absurd (omega arith)));
+      paced = paces_within paced_lost (omega arith);
       scans =
           let none = l.none_scanned in
           let none_before = f.looks.none_scanned in
@@ -191,6 +200,7 @@ module _ {shared : ObjectData} {reg : ℕ} {new : List ℕ} {done : Reply} {call
         record {
           at = record { past = lost_past; turn = inr (tried, free) };
           tried = tried;
+          paced = paced_lost;
           changes = not_never;
           late = let upto = r.past.calling.looked.upto in let is = r.seen_is in omega arith;
           changed = subst (λ n. ¬ NoneOn after.view.plan reg (drop n after.view.seen)) at l.changed;
@@ -214,6 +224,7 @@ module _ {shared : ObjectData} {reg : ℕ} {new : List ℕ} {done : Reply} {call
       on = b.gives.on b.before.view.plan;
       keeps = b.gives.keeps;
       calling = calling;
+      paced = paced;
       installed = i;
       walk = inl (refl, walk_none);
       back = ends;

@@ -3,8 +3,9 @@ use Rattle.std.proofs.Common.{◌≡◌, ◌≢◌, ◌∙◌, ℕ, ◌+◌, ◌
 use Rattle.std.proofs.Common.{length, filter, append_assoc, append-nil, length-append, refl, sym, ap, subst, arith, ◌⊎◌, inl, inr, ⊎_elim}
 use Rattle.std.proofs.lemmas.List.Filters.{length-filter_both}
 use Rattle.big_atomic.proofs.Goings.{goes_still}
+use Rattle.big_atomic.proofs.Pacing.{paces_still}
 use Rattle.big_atomic.proofs.Paid.{AreStill, all_still, scan_loads-append, still, still-append, still_exchanges, still_lost}
-use Rattle.big_atomic.specs.Calling.{Goes, OnlySteps}
+use Rattle.big_atomic.specs.Calling.{Goes, OnlySteps, Paces}
 use Rattle.big_atomic.specs.Turns.{exchanges, is_scan_load, lost_steps, scan_loads}
 use Rattle.hazard_claims.specs.Scanning.{IsScan, names}
 use Rattle.step_rules.specs.Claims.{BACK, HOLD, OWN, On, WALK}
@@ -77,6 +78,9 @@ module _ {u w : SeatData} (s : IsScan u w) (first : IsSeat u) (last : IsSeat w) 
 
   pub scan_tried : exchanges steps ≡ 0
   scan_tried = still_exchanges steps steps_still
+
+  pub scan_paced : (claims : ℕ) → Paces claims claims steps
+  scan_paced claims = paces_still claims steps steps_still
 
   pub scan_all : scan_loads steps ≡ 4 * u.view.plan.seats
   scan_all = let none = (clear_is (length u.view.seen) s.clear s.cleared).1 in let all = loads.all in omega (arith, scan_loads-append s.clear s.loads)

@@ -4,8 +4,9 @@ use Rattle.std.proofs.Common.{length, take, drop, filter, append_assoc, refl, sy
 use Rattle.std.proofs.lemmas.Bool.{and_right, cases_Bool}
 use Rattle.big_atomic.proofs.Answered.{MayEnd, ended_back, held_then, right_at, scanned_since, EndsAs, ended_as}
 use Rattle.big_atomic.proofs.Goings.{calling_then, held_stays}
+use Rattle.big_atomic.proofs.Pacing.{paces_then}
 use Rattle.big_atomic.proofs.Paid.{costs_then, costs_within, exchanges-append, scan_loads-append}
-use Rattle.big_atomic.proofs.Scanning.{holding_stays, own_words, own_words_later, scan_all, scan_few, scan_goes, scan_lost, scan_seen, scan_tried, scan_view, scanned_now}
+use Rattle.big_atomic.proofs.Scanning.{holding_stays, own_words, own_words_later, scan_all, scan_few, scan_goes, scan_lost, scan_paced, scan_seen, scan_tried, scan_view, scanned_now}
 use Rattle.big_atomic.specs.Calling.{Calling, Costs, Goes, HasRoom}
 use Rattle.big_atomic.specs.Calls.{IsFullAnswer}
 use Rattle.big_atomic.specs.Giving.{Begun, HasDecided, HasTold, OnlyLooked, Past}
@@ -126,6 +127,7 @@ module _ {shared : ObjectData} {reg : ℕ} {new : List ℕ} {done : Reply} {call
   short_end = record {
     goes = calling.goes;
     looked = calling.looked;
+    paced = paces_then p.paced (scan_paced scan p.law s.law 1);
     first = b.began.ready.law;
     there = b.gives.inside w.view.plan (subst (λ (q : Plan). reg < q.registers) (sym plan_same) (there_now p));
     on = b.gives.on w.view.plan;

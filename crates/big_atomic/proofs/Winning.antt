@@ -1,5 +1,5 @@
 -- How a call whose exchange won is answered.
-use Rattle.std.proofs.Common.{◌≡◌, ◌∙◌, ℕ, ◌+◌, ◌/◌, ◌<◌, ◌≤◌, suc, zero, Bool, true, false, not, cond, eq-eqb, List, [], ◌∷◌, ◌++◌, Option, None}
+use Rattle.std.proofs.Common.{◌≡◌, ◌∙◌, ℕ, ◌+◌, ◌*◌, ◌/◌, ◌<◌, ◌≤◌, suc, zero, Bool, true, false, not, cond, eq-eqb, List, [], ◌∷◌, ◌++◌, Option, None}
 use Rattle.std.proofs.Common.{length, filter, take, drop, append_assoc, length-append, refl, sym, ap, subst, arith, inl}
 use Rattle.std.proofs.Math.Seq.{take-append_seam}
 use Rattle.std.proofs.lemmas.Bool.{and_parts}
@@ -10,11 +10,11 @@ use Rattle.big_atomic.proofs.Answered.{HasAnswered, ready_after}
 use Rattle.big_atomic.proofs.Balance.{balance, removes_spent}
 use Rattle.big_atomic.proofs.Ending.{EndsBy}
 use Rattle.big_atomic.proofs.Goings.{calling_then, drop_parts, held_stays, looked_more}
-use Rattle.big_atomic.proofs.Paid.{changes-append, exchanges-append, lost-append, scan_loads-append, paid_kept, paid_more, paid_still, paid_then, saw_within, still_exchanges, still_lost}
-use Rattle.big_atomic.specs.Calling.{Calling, HasWon, Costs}
+use Rattle.big_atomic.proofs.Paid.{changes-append, exchanges-append, lost-append, paid_kept, paid_more, paid_still, paid_then, rounds-append, saw_within, scan_loads-append, still_exchanges, still_lost, still_rounds}
+use Rattle.big_atomic.specs.Calling.{Calling, HasWon, Costs, Paces}
 use Rattle.big_atomic.specs.Calls.{HoldStays}
 use Rattle.big_atomic.specs.Ready.{IsReady}
-use Rattle.big_atomic.specs.Turns.{TurnsArePaid, changes_on, exchanges, is_exchange, is_lost, lost_steps, scan_loads}
+use Rattle.big_atomic.specs.Turns.{TurnsArePaid, changes_on, claim_rounds, exchanges, is_exchange, is_lost, lost_steps, scan_loads}
 use Rattle.seat_history.proofs.Histories.{state_at-append}
 use Rattle.seat_history.specs.Change.{is_change}
 use Rattle.seat_history.specs.Contents.{Contents}
@@ -44,6 +44,7 @@ use Rattle.step_rules.specs.declared.view.View.{View}
 -- a call on the cell k that `before` began and that `now` had come to when it tried its exchange, which won; then its claims were ended
 pub record WonCall (k word node : ℕ) (call : Call) (steps clears : List Counted) (look : ℕ) (before now after final : SeatData) : Type 0 where
   pub calling : Calling k steps look before now
+  pub paced : Paces 0 1 steps
   pub won : HasWon k word node call now after
   pub ended : EndsBy clears after final
   pub first : IsSeat before
@@ -203,6 +204,28 @@ module _ {k word node : ℕ} {call : Call} {steps clears : List Counted} {look :
       ∙ changes-append before.view.plan k (number before.view) (drop look mid.view.seen) (drop (length mid.view.seen) final.view.seen) in
       omega arith
 
+  -- no claim round came since, and one more exchange at most
+  rounds : claim_rounds all_steps ≤ lost_steps all_steps + 1
+  rounds =
+      let paced = w.paced.rounds in
+      let none = w.won.retried.none_claimed in
+      let after : claim_rounds tail ≡ 0 = still_rounds clears w.ended.still in
+      omega (arith, rounds-append (steps ++ w.won.tries) tail, rounds-append steps w.won.tries, lost-append (steps ++ w.won.tries) tail, lost-append steps w.won.tries)
+
+  tries : exchanges all_steps ≤ 2 * (lost_steps all_steps + 1)
+  tries =
+      let paced = w.paced.tries in
+      let few = w.won.retried.few in
+      let after : exchanges tail ≡ 1 = ap suc (still_exchanges clears w.ended.still) in
+      omega (
+        arith,
+        exchanges_most w.won.tries,
+        exchanges-append (steps ++ w.won.tries) tail,
+        exchanges-append steps w.won.tries,
+        lost-append (steps ++ w.won.tries) tail,
+        lost-append steps w.won.tries,
+      )
+
   pub won_held : held_by final.view.seen (number final.view) final.view.stands ≡ held_by before.view.seen (number before.view) before.view.stands
   won_held =
       ap (λ (z : View). held_by z.seen (number z) z.stands) final_view
@@ -245,6 +268,8 @@ module _ {k word node : ℕ} {call : Call} {steps clears : List Counted} {look :
       };
       paid = paid;
       few = few;
+      rounds = rounds;
+      tries = tries;
     };
     steps_are = refl;
     stand_is = refl;

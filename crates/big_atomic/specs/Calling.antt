@@ -1,8 +1,8 @@
 -- What a call knows between its steps.
-use Rattle.std.specs.Prelude.{◌≡◌, ◌≢◌, ℕ, ◌+◌, ◌-◌, ◌/◌, ◌<◌, ◌≤◌, Bool, true, false, suc, zero, List, [], ◌∷◌, ◌++◌, Option, Some, None, ◌⊎◌, length, take, drop, unwrap_or, if◌then◌else◌}
+use Rattle.std.specs.Prelude.{◌≡◌, ◌≢◌, ℕ, ◌+◌, ◌-◌, ◌*◌, ◌/◌, ◌<◌, ◌≤◌, Bool, true, false, suc, zero, List, [], ◌∷◌, ◌++◌, Option, Some, None, ◌⊎◌, length, take, drop, unwrap_or, if◌then◌else◌}
 use Rattle.big_atomic.specs.Calls.{register_at}
 use Rattle.big_atomic.specs.Ready.{IsReady}
-use Rattle.big_atomic.specs.Turns.{TurnsArePaid, changes_on, exchanges, last_look, lost_steps, scan_loads}
+use Rattle.big_atomic.specs.Turns.{TurnsArePaid, changes_on, claim_rounds, exchanges, last_look, lost_steps, scan_loads}
 use Rattle.hazard_claims.specs.Scanning.{IsScan}
 use Rattle.hazard_claims.specs.declared.answers.Recheck.{Recheck as Rechecked}
 use Rattle.hazard_claims.specs.declared.answers.Recheck.TheVariants.{Same, Other}
@@ -60,6 +60,12 @@ pub record Costs (lost tried many : ℕ) (steps : List Counted) : Type 0 where
   pub tried_most : exchanges steps ≤ tried
   pub most : length steps ≤ many
 
+-- so many claims serve before these steps (one or none), and so many after them: a claim round begins one, a lost step ends it, and at most two
+-- exchanges were tried under one that has ended
+pub record Paces (from to : ℕ) (steps : List Counted) : Type 0 where
+  pub rounds : claim_rounds steps + from ≤ lost_steps steps + to
+  pub tries : exchanges steps ≤ 2 * lost_steps steps
+
 -- the first look at the cell is among the steps
 pub record IsLooked (k : ℕ) (steps : List Counted) (look : ℕ) (before now : SeatData) : Type 0 where
   pub looked : first_look k steps ≡ Some look
@@ -111,19 +117,20 @@ HasTurned c reg seen (Same word) before now = TurnedOnce c reg seen word before 
 HasTurned c reg seen (Other word) before now = TurnedOnce c reg seen word before now × (lost_steps (turn_steps c reg seen word before now) ≡ 1)
     × (¬ NoneOn now.view.plan reg (drop (length before.view.seen) now.view.seen))
 
--- some turns, of which the first begins with a look
-pub record HasSeen (c reg word : ℕ) (before now : SeatData) : Type 0 where
+-- some turns, of which the first begins with a look, and after which so many claims serve
+pub record HasSeen (c reg word claims : ℕ) (before now : SeatData) : Type 0 where
   pub steps : List Counted
   pub look : ℕ
   pub goes : (found : Option ℕ) → Goes reg found steps before now
   pub looked : IsLooked reg steps look before now
   pub looks : AreLooks steps
+  pub paced : Paces 0 claims steps
   pub stays : Stays c before now
   pub found : HasFound reg word now.view
 
 -- the node that the register's cell names is claimed
 abbrev pub HasClaimed : ℕ → ℕ → ℕ → SeatData → SeatData → Type 0
-HasClaimed c reg word before now = HasSeen c reg word before now × HasClaim c reg word now
+HasClaimed c reg word before now = HasSeen c reg word 1 before now × HasClaim c reg word now
 
 -- and its record, which is the register's at the end of what is seen, was read
 abbrev pub HasClaimedRecord : ℕ → ℕ → ℕ → List ℕ → SeatData → SeatData → Type 0
@@ -131,8 +138,8 @@ HasClaimedRecord c reg word rec before now = HasClaimed c reg word before now ×
 
 -- one look and one turn
 abbrev pub HasTried : ℕ → ℕ → Rechecked → SeatData → SeatData → Type 0
-HasTried c reg (Same word) before now = (s : HasSeen c reg word before now) × (length s.steps ≡ 3) × (lost_steps s.steps ≡ 0) × HasClaim c reg word now
-HasTried c reg (Other word) before now = (s : HasSeen c reg word before now) × (length s.steps ≡ 3) × (lost_steps s.steps ≤ 1) × (¬ NoneOn now.view.plan reg (drop s.look now.view.seen))
+HasTried c reg (Same word) before now = (s : HasSeen c reg word 1 before now) × (length s.steps ≡ 3) × (lost_steps s.steps ≡ 0) × HasClaim c reg word now
+HasTried c reg (Other word) before now = (s : HasSeen c reg word 0 before now) × (length s.steps ≡ 3) × (lost_steps s.steps ≤ 1) × (¬ NoneOn now.view.plan reg (drop s.look now.view.seen))
 
 -- a node's record was read
 pub record HasRead (node : ℕ) (rec : List ℕ) (before now : SeatData) : Type 0 where
@@ -164,6 +171,7 @@ pub record HoldsFilled (node : ℕ) (rec : List ℕ) (before now : SeatData) : T
   pub goes : (k : ℕ) → Goes k (Some (length before.view.seen)) steps before now
   pub looks : AreLooks steps
   pub none_lost : lost_steps steps ≡ 0
+  pub none_claimed : claim_rounds steps ≡ 0
   pub few : length steps ≤ WIDTH + 2
   pub free : IsWithout node before.free now.free
   pub holding : now.holding ≡ before.holding ++ node ∷ []
@@ -176,6 +184,7 @@ pub record HoldsFilled (node : ℕ) (rec : List ℕ) (before now : SeatData) : T
 pub record HasRetried (reg : ℕ) (tries : List Counted) (before mid : SeatData) : Type 0 where
   pub goes : Goes reg (Some (length before.view.seen)) tries before mid
   pub none_lost : lost_steps tries ≡ 0
+  pub none_claimed : claim_rounds tries ≡ 0
   pub none_scanned : scan_loads tries ≡ 0
   pub few : length tries ≤ 1
   pub view : mid.view ≡ record before.view { seen = mid.view.seen; look = mid.view.look; trail = mid.view.trail }
@@ -196,6 +205,7 @@ pub record HasLost (reg word other : ℕ) (before now : SeatData) : Type 0 where
   pub tries : List Counted
   pub goes : Goes reg (Some (length before.view.seen)) tries before now
   pub one_lost : lost_steps tries ≤ 1
+  pub paced : Paces 1 0 tries
   pub some_tried : 0 < exchanges tries
   pub none_scanned : scan_loads tries ≡ 0
   pub few : length tries ≤ 2

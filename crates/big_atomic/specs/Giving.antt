@@ -1,6 +1,6 @@
 -- A call that gives a register a record: what it began with, and what is known at each stage of it.
 use Rattle.std.specs.Prelude.{◌≡◌, ℕ, ◌*◌, ◌+◌, ◌<◌, ◌≤◌, Bool, true, false, not, List, [], ◌∷◌, Option, length, drop, ◌⊎◌}
-use Rattle.big_atomic.specs.Calling.{AreLooks, Began, Calling, Costs, HasClaim}
+use Rattle.big_atomic.specs.Calling.{AreLooks, Began, Calling, Costs, HasClaim, Paces}
 use Rattle.big_atomic.specs.Calls.{Answered, HoldStays, IsFullAnswer, ScansForWant, register_at}
 use Rattle.big_atomic.specs.Ready.{IsReady}
 use Rattle.big_atomic.specs.Turns.{exchanges, scan_loads}
@@ -56,11 +56,12 @@ pub record IsOnce {shared : ObjectData} {reg : ℕ} {new : List ℕ} {done : Rep
   pub look_is : b.look ≡ look
   pub once : b.once ≡ true
 
--- what it did so far: it holds no node, and of its claims Back alone may stand beside Hold. A scan was made only where no node was free, and where
+-- what it did so far: it holds no node, and of its claims Back alone may stand beside Hold. One claim serves it. A scan was made only where no node was free, and where
 -- it tries once it lost so many exchanges and made at most so many steps
 pub record Past {shared : ObjectData} {reg : ℕ} {new : List ℕ} {done : Reply} {call : Call} (b : Begun shared reg new done call) (lost most : ℕ) (now : SeatData) : Type 0 where
   pub steps : List Counted
   pub calling : Calling reg steps b.look b.before now
+  pub paced : Paces 0 1 steps
   pub scans : (scan_loads steps ≡ 0) ⊎ ((scan_loads steps ≡ 4 * b.before.view.plan.seats) × (length b.before.free < 1))
   pub walk : (claim_of WALK now.view).word ≡ 0
   pub own : (claim_of OWN now.view).word ≡ 0
@@ -92,10 +93,11 @@ pub record HasDecided {shared : ObjectData} {reg : ℕ} {new : List ℕ} {done :
   pub there : register_at now.view (length now.view.seen) reg ≡ rec
   pub agrees : Agrees reg rec new done call
 
--- its exchange was lost: others changed the register since so much was seen, and its node is free again
+-- its exchange was lost, and no claim serves it any more: others changed the register since so much was seen, and its node is free again
 pub record HasLostTurn {shared : ObjectData} {reg : ℕ} {new : List ℕ} {done : Reply} {call : Call} (b : Begun shared reg new done call) (seen : ℕ) (now : SeatData) : Type 0 where
   pub at : AtTurn b 1 (2 * WIDTH + 12 + 4 * b.before.view.plan.seats) now
   pub tried : 0 < exchanges at.past.steps
+  pub paced : Paces 0 0 at.past.steps
   pub changes : ((c : Contents) → is_change c call ≡ false) → ⊥
   pub late : b.look ≤ seen
   pub changed : ¬ NoneOn now.view.plan reg (drop seen now.view.seen)

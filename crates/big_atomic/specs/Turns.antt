@@ -1,6 +1,7 @@
 -- Turns: a step that found another node than it was given is paid for by another caller's change.
-use Rattle.std.specs.Prelude.{◌≡◌, ℕ, ◌/◌, ◌<◌, ◌==◌, ◌&&◌, Bool, true, false, not, List, [], ◌∷◌, ◌++◌, Option, Some, length, filter, take, drop, if◌then◌else◌}
+use Rattle.std.specs.Prelude.{◌≡◌, ℕ, ◌/◌, ◌<◌, ◌==◌, ◌&&◌, ◌||◌, Bool, true, false, not, List, [], ◌∷◌, ◌++◌, Option, Some, length, filter, take, drop, if◌then◌else◌}
 use Rattle.seat_history.specs.declared.entry.Entry.{Entry}
+use Rattle.step_rules.specs.Claims.{BACK, HOLD}
 use Rattle.step_rules.specs.History.{cell_of}
 use Rattle.step_rules.specs.Kinds.Standing.{is_look}
 use Rattle.step_rules.specs.declared.plan.Plan.{Plan}
@@ -20,6 +21,14 @@ is_lost step = is_lost_by step.kind step.found
 -- how many of the steps are lost
 abbrev pub lost_steps : List Counted → ℕ
 lost_steps steps = length (filter is_lost steps)
+
+abbrev pub is_claim_round : Kind → Bool
+is_claim_round (Recheck claim cell seen) = (claim == BACK) || (claim == HOLD)
+is_claim_round _ = false
+
+-- how many of the steps are rechecks on Back or Hold: so many times a cell's node was claimed, or was to be
+abbrev pub claim_rounds : List Counted → ℕ
+claim_rounds steps = length (filter (λ (step : Counted). is_claim_round step.kind) steps)
 
 abbrev pub is_exchange : Kind → Bool
 is_exchange (BackupExchange cell seen node) = true

@@ -1,4 +1,4 @@
-use Rattle.std.proofs.Common.{None}
+use Rattle.std.proofs.Common.{None, arith}
 use Rattle.big_atomic.proofs.Answered.{goes_of}
 use Rattle.big_atomic.proofs.Claimed.{seen_first, seen_further}
 use Rattle.big_atomic.proofs.Goings.{free_stays}
@@ -18,10 +18,7 @@ pub claim_once-requires-clause-free : goal.claim_once-requires-clause-free
 claim_once-requires-clause-free c is = let s = c.turns.invariant.sees in free_stays c.law.ensures.sound (s.goes None) (c.requires.free is)
 
 pub returns-in-Same-clause-claimed : goal.returns-in-Same-clause-claimed
-returns-in-Same-clause-claimed c = let t = c.in-Same.ensures.turned in (seen_further c.turns.invariant.sees t.0, t.2)
+returns-in-Same-clause-claimed c = let t = c.in-Same.ensures.turned in (seen_further c.turns.invariant.sees t.0 (let none = t.1 in omega arith), t.2)
 
 pub turns-preserved : goal.turns-preserved
-turns-preserved c = record {
-  sees = seen_further c.turns.invariant.sees c.in-Other.ensures.turned.0;
-  law = c.in-Other.ensures.law;
-}
+turns-preserved c = let t = c.in-Other.ensures.turned in record { sees = seen_further c.turns.invariant.sees t.0 (let one = t.1 in omega arith); law = c.in-Other.ensures.law }
