@@ -27,10 +27,10 @@ use Rattle.step_rules.proofs.Line.Lawfuls.{above_end}
 use Rattle.step_rules.proofs.Line.Records.{held_next}
 use Rattle.step_rules.proofs.Line.Trails.{goes_on_same, trail_step}
 use Rattle.step_rules.specs.Claims.{BACK, ClaimsSound, HOLD, IsClaim, OWN, On, Tells, WALK}
-use Rattle.step_rules.specs.History.{GoesOn, IsThere, cell_of, key_cell}
+use Rattle.step_rules.specs.History.{GoesOn, cell_of, key_cell}
 use Rattle.step_rules.specs.Kinds.Standing.{first_look}
 use Rattle.step_rules.specs.Layout.{nodes}
-use Rattle.step_rules.specs.Lawful.{IsReply, IsRight, held_by, is_full}
+use Rattle.step_rules.specs.Lawful.{IsLegal, IsReply, IsRight, held_by, is_full}
 use Rattle.step_rules.specs.SeatData.{IsOf, IsSeat, ObjectData, SeatData}
 use Rattle.step_rules.specs.Sound.{Sound}
 use Rattle.step_rules.specs.Steps.{HasLooked, HasScanned, MayAnswer, stepped, unnoted}
@@ -47,9 +47,9 @@ use Rattle.step_rules.specs.declared.view.View.{View}
 
 -- a stand that is no change
 pub right_at : (v : View) (q : ℕ) (call : Call) (reply : Reply) → q ≤ length v.seen
-    → IsReply v.plan (stock v) (state_at v.seen q) (take q v.seen) (held_by v.seen (number v) v.stands) call reply
+    → IsLegal v.plan (held_by v.seen (number v) v.stands) call → IsReply v.plan (stock v) (state_at v.seen q) (take q v.seen) (held_by v.seen (number v) v.stands) call reply
     → false ≡ (is_change (state_at v.seen q) call && not (is_full reply)) → IsRight v.plan v.seen v.stands (reading q call reply v)
-right_at v q call reply within right still = record { place = within; reply = right; changes = still; entry = λ e. absurd (false≢true e) }
+right_at v q call reply within legal right still = record { place = within; legal = legal; reply = right; changes = still; entry = λ e. absurd (false≢true e) }
 
 -- the seat has looked at the call's cell
 pub looked_cell : (q : ℕ) (call : Call) (v : View) → (n : ℕ) × (first_look (cell_of v.plan call) (drop v.since v.trail) ≡ Some n) × (n ≤ q) → HasLooked q call v
@@ -82,7 +82,6 @@ pub record MayEnd (reg look q : ℕ) (call : Call) (reply : Reply) (steps : List
   pub looked : IsLooked reg steps look before now
   pub paced : Paces 0 1 steps
   pub first : IsSeat before
-  pub there : IsThere now.view.plan call
   pub on : cell_of now.view.plan call ≡ reg
   pub late : look ≤ q
   pub right : IsRight now.view.plan now.view.seen now.view.stands (reading q call reply now.view)
@@ -96,7 +95,6 @@ may_answer {reg = reg} {look = look} {q = q} {call = call} {reply = reply} {step
     let late = m.late in
     let stands : now.view.stands ≡ before.view.stands = ap (λ (z : View). z.stands) m.goes.only in
     record {
-      there = m.there;
       stand = record {
         right = m.right;
         above = λ i s at. above_end before.view.plan before.view.numbers before.view.seen before.view.stands q call reply now.view m.first.sound.lawful (omega arith) i s
@@ -215,8 +213,16 @@ scanned_ended v within h =
 
 pub may_ended : (q : ℕ) (call : Call) (reply : Reply) (now : SeatData) → Sound now.view → MayAnswer q call reply now → MayAnswer q call reply (stepped (cleared_view BACK now.view) (unnoted BACK now))
 may_ended q call reply now sound may = record {
-  there = may.there;
-  stand = record { right = record { place = may.stand.right.place; reply = may.stand.right.reply; changes = may.stand.right.changes; entry = may.stand.right.entry }; above = may.stand.above };
+  stand = record {
+    right = record {
+      place = may.stand.right.place;
+      legal = may.stand.right.legal;
+      reply = may.stand.right.reply;
+      changes = may.stand.right.changes;
+      entry = may.stand.right.entry;
+    };
+    above = may.stand.above;
+  };
   looked = looked_ended q call now.view sound.trail.within may.looked;
   full = λ need free e. let f = may.full need free e in (f.0, f.1, scanned_ended now.view sound.trail.within f.2);
 }
@@ -262,6 +268,7 @@ answered_now {reg = reg} {look = look} {q = q} {call = call} {reply = reply} {st
           by = ap (λ (z : View). number z) m.goes.only;
           call = refl;
           reply = refl;
+          held = ap (λ (z : View). z.numbers) m.goes.only;
           stock = m.goes.stock;
           trail = ap (λ (z : View). z.trail) view ∙ all.trail;
           look = look;

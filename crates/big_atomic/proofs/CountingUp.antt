@@ -70,7 +70,7 @@ module _ (reg : ℕ) (number : List ℕ → ℕ) where
 
   up_on : (p : Plan) → EachKeeps p (λ (s : Stand). CountsUp reg number s.call) HasComeUp
   up_on p done o log s up right come =
-      let one : IsCounted o.contents.registers (after_stand o s).contents.registers s.call s.reply = answered p s.stock s.by o log s.call s.reply up right in
+      let one : IsCounted o.contents.registers (after_stand o s).contents.registers s.call s.reply = answered p s.stock s.by o log s.call s.reply up right.reply in
       omega (arith, one, come, count_push (by_call (tells_counted reg)) done s)
 
   pub register_counts : (seat : SeatData) (closed : ClosedData) → IsSeat seat → IsClosed seat closed → All (λ (s : Stand). CountsUp reg number s.call) closed.stands

@@ -33,7 +33,7 @@ use Rattle.seat_history.specs.declared.reply.Reply.TheVariants.{Done, Full, No, 
 use Rattle.seat_history.specs.declared.words.TheConstants.{WIDTH}
 use Rattle.step_rules.proofs.Numbers.Places.{at_there}
 use Rattle.step_rules.specs.Claims.{BACK, HOLD, OWN, On, WALK}
-use Rattle.step_rules.specs.Lawful.{IsRight, held_by, is_full}
+use Rattle.step_rules.specs.Lawful.{IsLegal, IsRight, held_by, is_full}
 use Rattle.step_rules.specs.Records.{Edit, cost_of, gain_of}
 use Rattle.step_rules.specs.SeatData.{IsOf, IsSeat, ObjectData, SeatData}
 use Rattle.step_rules.specs.Views.{claim_of, look_at, number, reading, silent, stock}
@@ -48,6 +48,7 @@ pub store_gives : (reg : ℕ) (new : List ℕ) → length new ≡ WIDTH → Give
 store_gives reg new wide = record {
   on = λ p. refl;
   inside = λ p inside. inside;
+  may = λ held. tt;
   keeps = λ c held. refl;
   edits = λ rs. refl;
   changes = λ c. refl;
@@ -65,6 +66,7 @@ pub swap_gives : (reg : ℕ) (old new : List ℕ) → length old ≡ WIDTH → l
 swap_gives reg old new old_wide wide = record {
   on = λ p. refl;
   inside = λ p inside. inside;
+  may = λ held. tt;
   keeps = λ c held. refl;
   edits = λ rs. refl;
   changes = λ c. refl;
@@ -199,6 +201,12 @@ module _ {shared : ObjectData} {reg : ℕ} {new : List ℕ} {done : Reply} {call
       pub decided : Agrees reg rec new done call → HasDecided b word rec now
       decided agrees = record { at = read_at; claim = read_claim; there = read_there; agrees = agrees }
 
+    pub legal_now : {lost most : ℕ} {now : SeatData} → Past b lost most now → IsLegal now.view.plan (held_by now.view.seen (number now.view) now.view.stands) call
+    legal_now {now = now} p = record {
+      there = b.gives.inside now.view.plan (there_now p);
+      may = b.gives.may (held_by now.view.seen (number now.view) now.view.stands);
+    }
+
     -- AN ANSWER
     module _ {lost most : ℕ} {now : SeatData} (t : AtTurn b lost most now) where
       pub tells : (q : ℕ) (reply : Reply) → b.look ≤ q → IsRight now.view.plan now.view.seen now.view.stands (reading q call reply now.view)
@@ -208,7 +216,6 @@ module _ {shared : ObjectData} {reg : ℕ} {new : List ℕ} {done : Reply} {call
         looked = t.past.calling.looked;
         paced = t.past.paced;
         first = b.began.ready.law;
-        there = b.gives.inside now.view.plan (there_now t.past);
         on = b.gives.on now.view.plan;
         late = late;
         right = right;
@@ -251,7 +258,7 @@ module _ {shared : ObjectData} {reg : ℕ} {new : List ℕ} {done : Reply} {call
       end_there =
           let none : is_change (state_at now.view.seen (length now.view.seen)) call ≡ false = d.agrees.changes (state_at now.view.seen (length now.view.seen)) d.there ∙ ap not same in
           tells d.at (length now.view.seen) done d.at.past.calling.looked.upto
-          (right_at now.view (length now.view.seen) call done (omega arith) (d.agrees.says now.view.plan (stock now.view) (state_at now.view.seen (length now.view.seen)) (take (length now.view.seen) now.view.seen)
+          (right_at now.view (length now.view.seen) call done (omega arith) (legal_now d.at.past) (d.agrees.says now.view.plan (stock now.view) (state_at now.view.seen (length now.view.seen)) (take (length now.view.seen) now.view.seen)
           (held_by now.view.seen (number now.view) now.view.stands) d.there)
           (sym (ap (λ (c : Bool). c && not (is_full done)) none)))
           b.gives.not_full

@@ -1,5 +1,5 @@
 -- How loads, holds, looks at the held record, and releases come to their answers.
-use Rattle.std.proofs.Common.{◌≡◌, ◌≢◌, ◌∙◌, ℕ, ◌+◌, ◌/◌, ◌^◌, ◌<◌, false, List, [], ◌∷◌, ◌++◌, Option, Some, None}
+use Rattle.std.proofs.Common.{◌≡◌, ◌≢◌, ◌∙◌, ℕ, ◌+◌, ◌/◌, ◌^◌, ◌<◌, false, true, List, [], ◌∷◌, ◌++◌, Option, Some, None}
 use Rattle.std.proofs.Common.{is_some, unwrap_or, length, take, set, get_or, length-append, refl, sym, ap, subst, arith, inr}
 use Rattle.std.proofs.lemmas.Bool.{false≢true}
 use Rattle.std.proofs.lemmas.List.{get_or-set_other, get_or-set_same}
@@ -26,7 +26,7 @@ use Rattle.step_rules.proofs.World.Registers.{claim_record}
 use Rattle.step_rules.proofs.Line.Trails.{longer_seen}
 use Rattle.step_rules.proofs.World.Sizes.{nodes_low}
 use Rattle.step_rules.specs.Claims.{BACK, HOLD, OWN, On, WALK}
-use Rattle.step_rules.specs.History.{GoesOn, IsThere, cell_of}
+use Rattle.step_rules.specs.History.{GoesOn, cell_of}
 use Rattle.step_rules.specs.Layout.{nodes}
 use Rattle.step_rules.specs.Lawful.{IsRight, held_by}
 use Rattle.step_rules.specs.SeatData.{IsHolding, IsSeat, ObjectData, SeatData, holds_record}
@@ -41,6 +41,10 @@ use Rattle.step_rules.specs.declared.view.Counted.{Counted}
 use Rattle.step_rules.specs.declared.view.Kind.TheVariants.{ClaimClear}
 use Rattle.step_rules.specs.declared.view.Stand.{Stand}
 use Rattle.step_rules.specs.declared.view.View.{View}
+
+none_there : {o : Option (List ℕ)} → is_some o ≡ false → o ≡ None
+none_there {o = None} e = refl
+none_there {o = Some words} e = absurd (false≢true (sym e))
 
 -- a call on a register claimed its node on c, and read the record
 pub record HasReadRegister (c reg word : ℕ) (rec : List ℕ) (before now : SeatData) : Type 0 where
@@ -78,14 +82,13 @@ module _ {c reg word : ℕ} {rec : List ℕ} {before now : SeatData} (r : HasRea
   end = length now.view.seen
 
   -- a call on the register may be answered now, by a reply that isn't Full and that is right
-  ends : (call : Call) (reply : Reply) → IsThere now.view.plan call → ((p : Plan) → cell_of p call ≡ reg) → IsRight now.view.plan now.view.seen now.view.stands (reading end call reply now.view)
+  ends : (call : Call) (reply : Reply) → ((p : Plan) → cell_of p call ≡ reg) → IsRight now.view.plan now.view.seen now.view.stands (reading end call reply now.view)
       → ((need free : ℕ) → reply ≢ Full need free) → MayEnd reg seen.look end call reply seen.steps before now
-  ends call reply there on right other = record {
+  ends call reply on right other = record {
     goes = goes;
     looked = seen.looked;
     paced = seen.paced;
     first = r.first;
-    there = there;
     on = on now.view.plan;
     late = seen.looked.upto;
     right = right;
@@ -95,10 +98,14 @@ module _ {c reg word : ℕ} {rec : List ℕ} {before now : SeatData} (r : HasRea
   }
 
   pub load_ends : MayEnd reg seen.look end (Load reg) (Words rec) seen.steps before now
-  load_ends = ends (Load reg) (Words rec) there_now (λ p. refl) (right_at now.view end (Load reg) (Words rec) (omega arith) (ap (λ (l : List ℕ). Words l) r.claimed.1) refl) (λ need free e. absurd cc)
+  load_ends = ends (Load reg) (Words rec) (λ p. refl)
+      (right_at now.view end (Load reg) (Words rec) (omega arith) (record { there = there_now; may = tt }) (ap (λ (l : List ℕ). Words l) r.claimed.1) refl)
+      (λ need free e. absurd cc)
 
-  pub hold_ends : MayEnd reg seen.look end (Hold reg) Done seen.steps before now
-  hold_ends = ends (Hold reg) Done there_now (λ p. refl) (right_at now.view end (Hold reg) Done (omega arith) refl refl) (λ need free e. absurd cc)
+  pub hold_ends : holds_record before.view ≡ false → MayEnd reg seen.look end (Hold reg) Done seen.steps before now
+  hold_ends none = ends (Hold reg) Done (λ p. refl)
+      (right_at now.view end (Hold reg) Done (omega arith) (record { there = there_now; may = held_stays r.first.sound goes ∙ none_there none }) refl refl)
+      (λ need free e. absurd cc)
 
   -- neither nodes nor exchanges nor scans
   quiet : {mid : View} {clear : List Counted} {links : List ℕ} (call : Call) (reply : Reply) (after : SeatData) → HasEnded now mid clear
@@ -158,10 +165,10 @@ module _ {c reg word : ℕ} {rec : List ℕ} {before now : SeatData} (r : HasRea
         image = ap (λ (y : Claim). y.image) same ∙ (image ∙ ap (λ (z : View). register_at z end reg ++ 0 ∷ []) (sym view));
       }
 
-  pub held_now : c ≡ HOLD → (after : SeatData) → HoldStood after → IsSeat after → IsHeld reg before after
-  held_now one after is last =
+  pub held_now : holds_record before.view ≡ false → c ≡ HOLD → (after : SeatData) → HoldStood after → IsSeat after → IsHeld reg before after
+  held_now none one after is last =
       let e = ended_none now goes.sound in
-      let a = answered_now after hold_ends e is last in
+      let a = answered_now after (hold_ends none) e is last in
       record {
         answered = a.answered;
         nodes = nodes_stay (λ rs. (refl, refl)) a.answered;
@@ -206,6 +213,7 @@ stood_still {q = q} {call = call} {reply = reply} {before = before} {mid = mid} 
       by = ap (λ (z : View). number z) s.goes.only;
       call = refl;
       reply = refl;
+      held = ap (λ (z : View). z.numbers) s.goes.only;
       stock = s.goes.stock;
       trail = ap (λ (z : View). z.trail) e ∙ s.goes.trail;
       from = omega arith;
@@ -234,10 +242,9 @@ still_nodes s = record {
 
 -- such a call may be answered at the end of what is seen
 may_still : (call : Call) (reply : Reply) (now : SeatData) → Sound now.view
-    → IsRight now.view.plan now.view.seen now.view.stands (reading (length now.view.seen) call reply now.view) → IsThere now.view.plan call
+    → IsRight now.view.plan now.view.seen now.view.stands (reading (length now.view.seen) call reply now.view)
     → HasLooked (length now.view.seen) call now.view → ((need free : ℕ) → reply ≢ Full need free) → MayAnswer (length now.view.seen) call reply now
-may_still call reply now sound right there looked done = record {
-  there = there;
+may_still call reply now sound right looked done = record {
   stand = record { right = right; above = above_end now.view.plan now.view.numbers now.view.seen now.view.stands (length now.view.seen) call reply now.view sound.lawful (omega arith) };
   looked = looked;
   full = λ need free e. absurd (done need free e);
@@ -293,10 +300,11 @@ module _ {words rec : List ℕ} {n : ℕ} {before mid : SeatData} (r : HasReadHe
   look_stand = reading (length mid.view.seen) Look (Words rec) mid.view
 
   look_right : IsRight mid.view.plan mid.view.seen mid.view.stands look_stand
-  look_right = right_at mid.view (length mid.view.seen) Look (Words rec) (omega arith) (ap (λ (o : Option (List ℕ)). Words (unwrap_or o [])) (look_held ∙ still_held.held)) refl
+  look_right = right_at mid.view (length mid.view.seen) Look (Words rec) (omega arith) (record { there = tt; may = ap is_some (look_held ∙ still_held.held) })
+      (ap (λ (o : Option (List ℕ)). Words (unwrap_or o [])) (look_held ∙ still_held.held)) refl
 
   pub may_look : MayAnswer (length mid.view.seen) Look (Words rec) mid
-  may_look = may_still Look (Words rec) mid r.last look_right tt tt (λ need free e. absurd cc)
+  may_look = may_still Look (Words rec) mid r.last look_right tt (λ need free e. absurd cc)
 
   abbrev LookStood : SeatData → Type 0
   LookStood after = after ≡ stepped (stood_view (length mid.view.seen) Look (Words rec) mid.view) mid
@@ -350,6 +358,7 @@ module _ {words rec : List ℕ} {n : ℕ} {before mid : SeatData} (r : HasReadHe
 -- the Hold claim was ended
 pub record HasReleased (before mid : SeatData) : Type 0 where
   pub cleared : mid ≡ stepped (cleared_view HOLD before.view) before
+  pub held : holds_record before.view ≡ true
   pub first : Sound before.view
   pub last : Sound mid.view
 
@@ -365,10 +374,11 @@ module _ {before mid : SeatData} (r : HasReleased before mid) where
       (ap (λ (z : SeatData). z.object) r.cleared) (ap (λ (z : SeatData). z.first) r.cleared) (ap stock clear_view) r.last
 
   release_right : IsRight mid.view.plan mid.view.seen mid.view.stands (reading (length mid.view.seen) Release Done mid.view)
-  release_right = right_at mid.view (length mid.view.seen) Release Done (omega arith) refl refl
+  release_right = right_at mid.view (length mid.view.seen) Release Done (omega arith) (record { there = tt; may = ap is_some (held_stays r.first release_goes) ∙ r.held })
+      refl refl
 
   pub may_release : MayAnswer (length mid.view.seen) Release Done mid
-  may_release = may_still Release Done mid r.last release_right tt tt (λ need free e. absurd cc)
+  may_release = may_still Release Done mid r.last release_right tt (λ need free e. absurd cc)
 
   abbrev ReleaseStood : SeatData → Type 0
   ReleaseStood after = after ≡ stepped (stood_view (length mid.view.seen) Release Done mid.view) mid

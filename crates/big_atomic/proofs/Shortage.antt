@@ -114,6 +114,10 @@ module _ {shared : ObjectData} {reg : ℕ} {new : List ℕ} {done : Reply} {call
       let rs = records_at w.view.plan log (cell_of w.view.plan call) in
       right_at w.view (length w.view.seen) call (Full 1 0) (omega arith)
       (record {
+        there = b.gives.inside w.view.plan (subst (λ (q : Plan). reg < q.registers) (sym plan_same) (there_now p));
+        may = b.gives.may (held_by w.view.seen (number w.view) w.view.stands);
+      })
+      (record {
         changes = ap (λ (l : List Entry). is_change (state_at l (length l)) call) seen
             ∙ changes_now s.decided s.other;
         need_is = sym (ap (λ (e : Edit). need (length rs) e) (b.gives.edits rs));
@@ -129,7 +133,6 @@ module _ {shared : ObjectData} {reg : ℕ} {new : List ℕ} {done : Reply} {call
     looked = calling.looked;
     paced = paces_then p.paced (scan_paced scan p.law s.law 1);
     first = b.began.ready.law;
-    there = b.gives.inside w.view.plan (subst (λ (q : Plan). reg < q.registers) (sym plan_same) (there_now p));
     on = b.gives.on w.view.plan;
     late = calling.looked.upto;
     right = right_full;

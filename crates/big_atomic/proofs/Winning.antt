@@ -245,6 +245,7 @@ module _ {k word node : ℕ} {call : Call} {steps clears : List Counted} {look :
         by = number_same;
         call = refl;
         reply = reply;
+        held = ap (λ (z : View). z.numbers) calling.goes.only;
         stock = calling.goes.stock;
         trail = trail_is;
         look = look;

@@ -8,6 +8,7 @@ use Rattle.big_atomic.specs.declared.answers.Given.{Given as Answer}
 use Rattle.big_atomic.specs.declared.answers.Given.TheVariants.{Done as GivenDone, Full as GivenFull, Moved as GivenMoved}
 use Rattle.seat_history.specs.Change.{is_change}
 use Rattle.seat_history.specs.Contents.{Contents}
+use Rattle.seat_history.specs.Object.{MayCall}
 use Rattle.seat_history.specs.Step.{held_after, is_same, reply_to}
 use Rattle.seat_history.specs.declared.call.Call.{Call}
 use Rattle.seat_history.specs.declared.entry.Entry.{Entry}
@@ -29,6 +30,7 @@ use Rattle.step_rules.specs.declared.view.View.{View}
 pub record Gives (reg : ℕ) (new : List ℕ) (done : Reply) (call : Call) : Type 0 where
   pub on : (p : Plan) → cell_of p call ≡ reg
   pub inside : (p : Plan) → reg < p.registers → IsThere p call
+  pub may : (held : Option (List ℕ)) → MayCall held call
   pub keeps : (c : Contents) (held : Option (List ℕ)) → held_after c held call ≡ held
   pub edits : (rs : List (List ℕ)) → edit_of rs call ≡ set 0 new
   pub changes : (c : Contents) → is_change_in (c.registers reg ∷ []) call ≡ is_change c call

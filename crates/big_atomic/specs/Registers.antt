@@ -1,5 +1,5 @@
 -- What a closed object's registers have, by what its calls gave them.
-use Rattle.std.specs.Prelude.{◌≡◌, ◌≢◌, ℕ, ◌+◌, ◌%◌, ◌^◌, ◌==◌, Bool, true, false, not, List, count_by, length, [], ⊤}
+use Rattle.std.specs.Prelude.{◌≡◌, ◌≢◌, ℕ, ◌+◌, ◌%◌, ◌^◌, ◌==◌, Bool, true, false, not, List, count_by, length, ⊤}
 use Rattle.big_atomic.specs.Stands.{by_call}
 use Rattle.seat_history.specs.Contents.{Contents, zeros}
 use Rattle.seat_history.specs.History.{state_at}
@@ -26,10 +26,9 @@ tells_unfit fits may_hold (Load reg) (Words words) = not (fits reg words)
 tells_unfit fits may_hold Look (Words words) = not (may_hold words)
 tells_unfit fits may_hold _ _ = false
 
--- a new object's registers fit, and so does what is looked at where nothing is held
-pub record FitsBlank (fits : ℕ → List ℕ → Bool) (may_hold : List ℕ → Bool) : Type 0 where
-  pub registers : (r : ℕ) → fits r zeros ≡ true
-  pub none_held : may_hold [] ≡ true
+-- a new object's registers fit
+abbrev pub FitsBlank : (ℕ → List ℕ → Bool) → Type 0
+FitsBlank fits = (r : ℕ) → fits r zeros ≡ true
 
 -- each register has a record that fits it, and none was read that doesn't
 pub record HasFitting (fits : ℕ → List ℕ → Bool) (may_hold : List ℕ → Bool) (closed : ClosedData) : Type 0 where

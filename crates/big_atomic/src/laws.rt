@@ -41,7 +41,7 @@ pub fn missed_has_seen_more()
 
 /// Where each call gives its register a record that fits, no other was read, and none is left.
 pub fn records_fit()
-    ensures { (fits : ℕ → List ℕ → Bool) (may_hold : List ℕ → Bool) → FitsBlank fits may_hold → (seat : SeatData) (closed : ClosedData)
+    ensures { (fits : ℕ → List ℕ → Bool) (may_hold : List ℕ → Bool) → FitsBlank fits → (seat : SeatData) (closed : ClosedData)
         → IsSeat seat → IsClosed seat closed → All (λ s. GivesFitting fits may_hold s.call) closed.stands → HasFitting fits may_hold closed }
 {}
 
