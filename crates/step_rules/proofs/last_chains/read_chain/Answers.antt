@@ -44,13 +44,13 @@ pub returns-then-next-eq0 : goal.returns-then-next-eq0
 returns-then-next-eq0 c = record {
   read = λ chain is. ends_last is (c.loop-turn.invariant chain is) c.pair_at.result.0 c.pair_at.result.1 (found_in c.insert.new.self)
       (there_at (slots_items c.args.words.now.words) (c.args.start + NODE_WIDTH * c.loop-turn.node + WIDTH) c.word-next.result 0 c.word-next.ensures ∙ c.if-next-eq0.true)
-      c.pair_at.ensures.pair c.in_ok-insert.ensures;
+      c.pair_at.ensures.pair c.in_ok-insert.ensures.ok;
 }
 
 pub loop-turn-preserved : goal.loop-turn-preserved
 loop-turn-preserved c chain is = goes_on is (c.loop-turn.invariant chain is) c.word-next.result c.pair_at.result.0 c.pair_at.result.1 (found_in c.insert.new.self)
     (there_at (slots_items c.args.words.now.words) (c.args.start + NODE_WIDTH * c.loop-turn.node + WIDTH) c.word-next.result 0 c.word-next.ensures)
-    c.if-next.false c.if-next-eq0.false c.pair_at.ensures.pair c.in_ok-insert.ensures
+    c.if-next.false c.if-next-eq0.false c.pair_at.ensures.pair c.in_ok-insert.ensures.ok
 
 pub returns : goal.returns
 returns c = record { read = λ chain is. absurd (not_past is (c.loop-turn.invariant chain is) c.loop-turn-test.false) }
