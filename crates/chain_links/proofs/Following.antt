@@ -6,13 +6,14 @@ use Rattle.std.proofs.lemmas.Bool.{or_left, or_right}
 use Rattle.std.proofs.lemmas.List.{length-take}
 use mathlib.Core.Option.{some, some-ne-none}
 use lib.ListN.{get_elem?}
+use Rattle.chain_links.proofs.Another.{done_unchanged, strayed_another}
 use Rattle.chain_links.proofs.Doing.{StaysBut, done_then, noted_stays, only_back, only_filled, only_freed, only_noted, only_passed, only_read, only_strayed}
 use Rattle.chain_links.proofs.Doing.{only_taken, only_then, read_then}
 use Rattle.chain_links.proofs.Passing.{back_claim, claim_at_low, passed_words}
 use Rattle.chain_links.proofs.Ways.{first_node}
 use Rattle.chain_links.specs.Following.{HasGivenUp, HasNext, HasNoted, HasTurnedBack, IsCopying}
 use Rattle.chain_links.specs.Parts.{HasDone, OnlyCopied, Part, fills, notes, pages_read, passes, reads, takes}
-use Rattle.chain_links.specs.Walking.{HasBack}
+use Rattle.chain_links.specs.Walking.{ChangedByAnother, HasBack, MadeNoChange}
 use Rattle.node_pool.proofs.Taken.{has_added}
 use Rattle.node_pool.specs.Pool.{IsFilled, IsRead, IsTaken}
 use Rattle.seat_history.specs.declared.words.TheConstants.{WIDTH}
@@ -87,7 +88,7 @@ link_still words only n =
     subst (λ (z : ℕ × List Held). has (nodes_of (drop 1 z.1)) z.0 ≡ true) (λ i. (link_is i, ap (λ (x : Claim). x.pages) (sym (only_back only)) i)) n.page
 
 -- A COPY AT ITS START
-module _ {cell first head : ℕ} {words : List ℕ} {before read now : SeatData} (law : IsSeat before) (b : HasBack cell before.view) (some_there : 0 < length (claimed_records before.view))
+module _ {cell first head : ℕ} {words : List ℕ} {before read now : SeatData} (law : IsSeat before) (b : HasBack cell before.view) (unchanged : MadeNoChange cell before.view) (some_there : 0 < length (claimed_records before.view))
     (idle : before.holding ≡ []) (none : before.noted ≡ []) (first_is : first ≡ b.node) (reading : IsRead first words before read) (sound : Sound read.view)
     (taking : IsTaken head read now) (last : IsSeat now) where
   on : On (claim_of BACK before.view) first
@@ -104,7 +105,7 @@ module _ {cell first head : ℕ} {words : List ℕ} {before read now : SeatData}
 
   pub copy_starts : IsCopying cell 0 head head words before now
   copy_starts = record {
-    from = record { law = law; back = b; idle = idle };
+    from = record { law = law; back = b; unchanged = unchanged; idle = idle };
     law = last;
     parts = reads (page_of first words) ∷ takes head ∷ [];
     done = (read, reading, sound, (now, taking, last.sound, refl));
@@ -333,6 +334,13 @@ module _ {cell at head last : ℕ} {words : List ℕ} {before now : SeatData} (c
         page = f.held;
         link = f.place;
         turned = subst (λ link. HasTurnedBack cell (2 * c.from.back.node) link now new) link_is t;
+        another = subst (λ (z : SeatData). ChangedByAnother cell z.view) (sym t.frees.same) (strayed_another cell (2 * c.from.back.node) (slice_index words WIDTH - 1) now t.strayed
+            (record {
+              node = c.from.back.node;
+              stands = subst (λ (x : Claim). On x c.from.back.node) (sym (only_back c.only)) c.from.back.stands;
+              cell_is = ap (λ (x : Claim). x.cell) (only_back c.only) ∙ c.from.back.cell_is;
+            })
+            (omega arith) ((done_unchanged cell (2 * c.from.back.node) c.parts before now c.from.law.sound c.done).none c.from.unchanged) t.strays);
         holding = t.frees.holding;
         free = λ m. omega (arith, only.lists m, ap (times m) t.frees.holding, ap (times m) c.from.idle);
         only = only;

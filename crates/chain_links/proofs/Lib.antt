@@ -1,3 +1,4 @@
+pub mod Another
 mod Copies
 pub mod Doing
 mod Finishing

@@ -3,8 +3,9 @@ use Rattle.std.proofs.Common.{◌≡◌, ◌≢◌, ◌∙◌, ℕ, ◌+◌, ◌
 use mathlib.Core.Option.{some}
 use lib.ListN.{get_elem?}
 use Rattle.chain_links.proofs.Seeking.{Seeks, at_front, ends_empty, ends_last, finds, link_on, next_word, seeks_all, seeks_on}
+use Rattle.chain_links.proofs.Another.{come_unchanged, strayed_another}
 use Rattle.chain_links.proofs.Passing.{back_claim, claim_at_low, come_kept, come_sound, kept_back, kept_pages, passed_words}
-use Rattle.chain_links.specs.Walking.{HasBack, HasCome, HasPassed, HasStrayed, IsWalked}
+use Rattle.chain_links.specs.Walking.{HasBack, HasCome, HasPassed, HasStrayed, IsWalked, MadeNoChange}
 use Rattle.chain_links.specs.declared.answers.Walk.TheVariants.{Found, End, Moved}
 use Rattle.node_pool.specs.Pool.{IsRead}
 use Rattle.seat_history.specs.Key.{key_number}
@@ -30,6 +31,7 @@ page_of node words = record { node = node; words = words }
 pub record OnTheWay (cell first : ℕ) (key : KeyWords) (at : ℕ) (words : List ℕ) (old now : SeatData) : Type 0 where
   pub sound : Sound old.view
   pub back : HasBack cell old.view
+  pub unchanged : MadeNoChange cell old.view
   pub first_is : first ≡ back.node
   pub come : HasCome cell (2 * first) at old now
   pub law : IsSeat now
@@ -40,15 +42,17 @@ pub record OnTheWay (cell first : ℕ) (key : KeyWords) (at : ℕ) (words : List
   pub long : length front ≡ at
   pub seeks : Seeks (key_number key) at (claimed_pages old.view) (page_of node words ∷ rest)
 
-pub starts : (cell first : ℕ) (key : KeyWords) (words : List ℕ) (old now : SeatData) → Sound old.view → IsSeat now → (b : HasBack cell old.view) → first ≡ b.node → IsRead first words old now
+pub starts : (cell first : ℕ) (key : KeyWords) (words : List ℕ) (old now : SeatData) → Sound old.view → IsSeat now → (b : HasBack cell old.view) → MadeNoChange cell old.view → first ≡ b.node
+    → IsRead first words old now
     → OnTheWay cell first key 0 words old now
-starts cell first key words old now sound law b is r =
+starts cell first key words old now sound law b unchanged is r =
     let claim = back_claim cell old.view sound b in
     let image : words ≡ (claim_of BACK old.view).image =
     r.claimed BACK (claim_of BACK old.view) (claim_at_low BACK old.view sound (omega arith)) (subst (λ n. On (claim_of BACK old.view) n) (sym is) b.stands) in
     let parts : claimed_pages old.view ≡ page_of first words ∷ claim.rest = claim.heads ∙ (λ i. record { node = sym is i; words = sym image i } ∷ claim.rest) in record {
       sound = sound;
       back = b;
+      unchanged = unchanged;
       first_is = is;
       come = (page_of first words, ap (λ (l : List Held). get_elem? l 0) parts, r, law.sound);
       law = law;
@@ -171,6 +175,7 @@ module _ {cell first : ℕ} {key : KeyWords} {at : ℕ} {words : List ℕ} {old 
       let more : suc at ≡ at + 1 = omega arith in record {
         sound = way.sound;
         back = way.back;
+        unchanged = way.unchanged;
         first_is = way.first_is;
         come = subst (λ m. HasCome cell (2 * first) m old new) more (now, page_of link read, way.come, place, h);
         law = law;
@@ -194,5 +199,6 @@ module _ {cell first : ℕ} {key : KeyWords} {at : ℕ} {words : List ℕ} {old 
       come = subst (λ m. HasCome cell (2 * m) at old now) is way.come;
       link = n.place;
       strayed = subst (λ (z : ℕ × ℕ). HasStrayed cell (2 * z.0) z.1 now new) (λ i. (is i, sym n.node_is i)) h;
+      another = strayed_another cell (2 * first) link now new back_still.0 back_still.1 ((come_unchanged cell (2 * first) at old now way.come).none way.unchanged) h;
     };
   }

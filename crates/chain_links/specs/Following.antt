@@ -3,7 +3,7 @@ use Rattle.std.specs.Prelude.{◌≡◌, ℕ, ◌+◌, ◌*◌, ◌-◌, true, f
 use mathlib.Core.Option.{some}
 use lib.ListN.{get_elem?}
 use Rattle.chain_links.specs.Parts.{HasDone, OnlyCopied, Part, pages_read, with_note}
-use Rattle.chain_links.specs.Walking.{HasBack, HasPassed, HasStrayed}
+use Rattle.chain_links.specs.Walking.{ChangedByAnother, HasBack, HasPassed, HasStrayed, MadeNoChange}
 use Rattle.chain_links.specs.declared.answers.Front.{Front}
 use Rattle.chain_links.specs.declared.answers.Front.TheVariants.{Ready, Moved}
 use Rattle.chain_links.specs.declared.copied.Copied.{Copied}
@@ -46,6 +46,7 @@ IsFollowed cell seen words (Some found) before now = HasNoted cell seen (record 
 pub record CopiesFrom (cell : ℕ) (before : SeatData) : Type 0 where
   pub law : IsSeat before
   pub back : HasBack cell before.view
+  pub unchanged : MadeNoChange cell before.view
   pub idle : before.holding ≡ []
 
 -- the first nodes of the claimed chain were read, up to the one at this place, which has these words, and its links up to there are noted; the
@@ -68,7 +69,8 @@ pub record IsCopying (cell at head last : ℕ) (words : List ℕ) (before now : 
   pub records : records_of (with_words now.view.own filled) ≡ take at (claimed_records before.view)
   pub only : OnlyCopied before now
 
--- some nodes of the chain were read, in their order, and at the next link the copy turned back: every node that was taken is free again
+-- some nodes of the chain were read, in their order, and at the next link the copy turned back, after a change of another caller: every node
+-- that was taken is free again
 pub record HasGivenUp (cell : ℕ) (before now : SeatData) : Type 0 where
   pub first : ℕ
   pub stands : On (claim_of BACK before.view) first
@@ -80,6 +82,7 @@ pub record HasGivenUp (cell : ℕ) (before now : SeatData) : Type 0 where
   pub page : Held
   pub link : get_elem? (claimed_pages before.view) (suc passed) ≡ some page
   pub turned : HasTurnedBack cell (2 * first) page.node mid now
+  pub another : ChangedByAnother cell now.view
   pub holding : now.holding ≡ []
   pub free : (m : ℕ) → times m now.free ≡ times m before.free
   pub only : OnlyCopied before now

@@ -1,7 +1,7 @@
 //! Copies of a chain's front.
 ghost use Rattle.std.specs.Prelude.{◌≡◌, ◌++◌, ◌∷◌, ◌<◌, ◌≢◌, [], length, slice_index};
 ghost use Rattle.chain_links.specs.Copying.{HasFree, HoldsCopy, IsCopied, IsPlace, IsPut, PutsBeside};
-ghost use Rattle.chain_links.specs.Walking.{HasBack};
+ghost use Rattle.chain_links.specs.Walking.{HasBack, MadeNoChange};
 ghost use Rattle.chain_links.specs.declared.answers.Edit.TheVariants.{Insert};
 ghost use Rattle.seat_history.specs.declared.words.TheConstants.{WIDTH};
 ghost use Rattle.step_rules.specs.Records.{pair, put};
@@ -23,11 +23,12 @@ use step_rules::{END, Seat, Shared};
 /// other records two, of which the second is a copy of that node. It is always Ready. A replace copies
 /// the records before its place, and the one there with the new value; a remove copies those before its
 /// place, or where that is the first the one after it. These two read each node once, in the chain's
-/// order. Moved comes only where the cell was found to name another node; then every node that was
-/// taken is free again.
+/// order. Moved comes only where the cell was found to name another node, which another caller's change
+/// has put there since the claim's recheck; then every node that was taken is free again.
 pub fn copy_front(shared: &Shared, seat: &mut Seat, cell: u32, edit: Edit) -> Front
     requires ours { IsOf shared.now seat.old }
     requires back { HasBack cell seat.old.view }
+    requires unchanged { MadeNoChange cell seat.old.view }
     requires idle { seat.old.holding ≡ [] }
     requires unnoted { seat.old.noted ≡ [] }
     requires place { IsPlace edit seat.old.view }

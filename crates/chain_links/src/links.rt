@@ -1,7 +1,7 @@
 //! Copies along the claimed chain up to a place, whose record has a new value or falls out.
 ghost use Rattle.std.specs.Prelude.{◌≡◌, ◌*◌, ◌<◌, ◌≤◌, ℕ, [], length};
 ghost use Rattle.chain_links.specs.Following.{HasNext, IsCopiedTo, IsFollowed, IsRemoved, IsReplaced};
-ghost use Rattle.chain_links.specs.Walking.{HasBack};
+ghost use Rattle.chain_links.specs.Walking.{HasBack, MadeNoChange};
 ghost use Rattle.step_rules.specs.Claims.{BACK, On};
 ghost use Rattle.step_rules.specs.SeatData.{IsOf, IsSeat, NoneAnnounced};
 ghost use Rattle.step_rules.specs.Views.{claim_of, claimed_records};
@@ -25,6 +25,7 @@ pub(crate) fn copy_replaced(
 ) -> Front
     requires ours { IsOf shared.now seat.old }
     requires back { HasBack cell seat.old.view }
+    requires unchanged { MadeNoChange cell seat.old.view }
     requires idle { seat.old.holding ≡ [] }
     requires unnoted { seat.old.noted ≡ [] }
     requires within { at < length (claimed_records seat.old.view) }
@@ -46,6 +47,7 @@ pub(crate) fn copy_replaced(
 pub(crate) fn copy_removed(shared: &Shared, seat: &mut Seat, cell: u32, at: u32) -> Front
     requires ours { IsOf shared.now seat.old }
     requires back { HasBack cell seat.old.view }
+    requires unchanged { MadeNoChange cell seat.old.view }
     requires idle { seat.old.holding ≡ [] }
     requires unnoted { seat.old.noted ≡ [] }
     requires within { at < length (claimed_records seat.old.view) }
@@ -64,6 +66,7 @@ pub(crate) fn copy_removed(shared: &Shared, seat: &mut Seat, cell: u32, at: u32)
 fn remove_first(shared: &Shared, seat: &mut Seat, cell: u32) -> Front
     requires ours { IsOf shared.now seat.old }
     requires back { HasBack cell seat.old.view }
+    requires unchanged { MadeNoChange cell seat.old.view }
     requires idle { seat.old.holding ≡ [] }
     requires unnoted { seat.old.noted ≡ [] }
     requires within { 0 < length (claimed_records seat.old.view) }
@@ -93,6 +96,7 @@ fn remove_first(shared: &Shared, seat: &mut Seat, cell: u32) -> Front
 fn remove_later(shared: &Shared, seat: &mut Seat, cell: u32, at: u32) -> Front
     requires ours { IsOf shared.now seat.old }
     requires back { HasBack cell seat.old.view }
+    requires unchanged { MadeNoChange cell seat.old.view }
     requires idle { seat.old.holding ≡ [] }
     requires unnoted { seat.old.noted ≡ [] }
     requires later { 0 < at }
@@ -123,6 +127,7 @@ fn remove_later(shared: &Shared, seat: &mut Seat, cell: u32, at: u32) -> Front
 fn copy_to(shared: &Shared, seat: &mut Seat, cell: u32, at: u32) -> Option<Copied>
     requires ours { IsOf shared.now seat.old }
     requires back { HasBack cell seat.old.view }
+    requires unchanged { MadeNoChange cell seat.old.view }
     requires idle { seat.old.holding ≡ [] }
     requires unnoted { seat.old.noted ≡ [] }
     requires within { at < length (claimed_records seat.old.view) }

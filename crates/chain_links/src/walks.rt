@@ -1,6 +1,6 @@
 //! Walks.
 ghost use Rattle.std.specs.Prelude.{◌≡◌, ◌/◌, true};
-ghost use Rattle.chain_links.specs.Walking.{HasBack, HasTurned, IsWalked};
+ghost use Rattle.chain_links.specs.Walking.{HasBack, HasTurned, IsWalked, MadeNoChange};
 ghost use Rattle.step_rules.specs.SeatData.{IsOf, IsSeat};
 ghost use Rattle.step_rules.specs.Views.{claimed_pages};
 ghost use Rattle.step_rules.specs.World.{has, nodes_of};
@@ -14,10 +14,12 @@ use step_rules::{END, Seat, Shared};
 
 /// Looks for a key on the chain that the seat's Back claim stands on. Each link is announced in Walk,
 /// and read once the cell was found to name Back's node still. Moved comes only where it names another
-/// one; the link announced last stays in Walk. What is noted stays, too.
+/// one, which another caller's change has put there since the claim's recheck; the link announced last
+/// stays in Walk. What is noted stays, too.
 pub fn walk(shared: &Shared, seat: &mut Seat, cell: u32, key: KeyWords) -> Walk
     requires ours { IsOf shared.now seat.old }
     requires back { HasBack cell seat.old.view }
+    requires unchanged { MadeNoChange cell seat.old.view }
     ensures walked { IsWalked cell key result seat.old seat.new }
     ensures law { IsSeat seat.new }
 {

@@ -17,7 +17,7 @@ overflow_cast-first c = omega (
 pub links-init : goal.links-init
 links-init c = record {
   within = omega arith;
-  copying = copy_starts c.claim_word-first.ensures.law c.requires.back (omega (arith, c.requires.within)) c.requires.idle c.requires.unnoted
+  copying = copy_starts c.claim_word-first.ensures.law c.requires.back c.requires.unchanged (omega (arith, c.requires.within)) c.requires.idle c.requires.unnoted
       (first_node c.number.result c.claim_word-first.result c.args.cell c.args.seat.now.view c.requires.back c.number.ensures c.claim_word-first.ensures.word)
       c.node_words-words.ensures.read c.node_words-words.ensures.law.sound c.take-head.ensures.taken c.take-head.ensures.law;
 }

@@ -14,7 +14,7 @@ overflow_cast-first c = omega (
 pub links-init : goal.links-init
 links-init c = starts
     c.args.cell (c.claim_word-first.result - 1) c.args.key c.node_words-words.result c.args.seat.now c.node_words-words.new.seat c.claim_word-first.ensures.law.sound c.node_words-words.ensures.law
-    c.requires.back
+    c.requires.back c.requires.unchanged
     (first_node c.number.result c.claim_word-first.result c.args.cell c.args.seat.now.view c.requires.back c.number.ensures c.claim_word-first.ensures.word) c.node_words-words.ensures.read
 
 pub returns-then-next-clause-walked : goal.returns-then-next-clause-walked
