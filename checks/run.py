@@ -1,37 +1,29 @@
 #!/usr/bin/env python3
 """Runs the built program from outside: exit statuses, streams and bytes.
 
-usage: checks/run.py [PROGRAM]
+usage: checks/run.py [PROGRAM [PART..]]
 
 What a run must write comes from a fold, a generator and a plain object written here, apart from the program.
-Without PROGRAM it takes crates/flow_tally/out/flow_tally, which it has `rt run` build where it is
-missing. It needs Python's own library alone, and ends with status 1 where a check fails.
+Without PROGRAM it takes crates/flow_tally/out/flow_tally, which it has `rt run` build where it is missing, and
+which may not be older than its sources. It needs Python's own library alone, tells what it leaves out, and ends
+with status 1 where a check fails. PART is a name of PARTS; all are run where none is given.
 """
 import os
 import random
 import struct
-import subprocess
 import sys
 import tempfile
+import time
 
 sys.dont_write_bytecode = True  # the repository stays as it was
+import devices
 import fold
+import limits
 import recipes
 import scripts
 import trials
-from running import USAGE, Checks, closed_pipe, little_memory
-
-TOP = os.path.dirname(os.path.dirname(os.path.abspath(__file__)))
-MOST_BYTES = 1 << 28
-
-
-def built_program() -> str:
-    """The program that `rt ci` or `rt run` built."""
-    folder = os.path.join(TOP, "crates", "flow_tally")
-    program = os.path.join(folder, "out", "flow_tally")
-    if not os.path.isfile(program):
-        subprocess.run(["rt", "run", "--", "tally", "data/one_record.nf5"], cwd=folder, stdout=subprocess.DEVNULL, check=True)
-    return program
+from limits import MOST_BYTES
+from running import TOP, USAGE, Checks, built_program, little_memory
 
 
 def tallies(checks: Checks) -> None:
@@ -77,26 +69,11 @@ def bad_files(checks: Checks, one: str, data: bytes) -> None:
     ):
         checks.ends(f"a bad datagram, {name}", ["tally", one, checks.file(name, bad), "missing"], 6, err=f"flow_tally: file 2 {line}\n")
     large = checks.file("large", b"")
-    os.truncate(os.path.join(checks.folder, large), MOST_BYTES - 71)
-    checks.ends("one byte too many", ["tally", one, large, "missing"], 8, err="flow_tally: input too large at file 2\n")
-    os.truncate(os.path.join(checks.folder, large), MOST_BYTES - 72)
-    checks.ends("as many bytes as may be", ["tally", one, large], 6, err="flow_tally: file 2 offset 0: version 0\n")
+    os.truncate(os.path.join(checks.folder, large), MOST_BYTES)
     checks.ends("a large file and little memory", ["tally", large], 6, err="flow_tally: file 1 offset 0: version 0\n", before=little_memory)
     checks.ends("a large script and little memory", ["drive", large], 10, err="flow_tally: out of memory\n", before=little_memory)
     many = checks.file("many", fold.datagram([data[24:]] * 30) * 40_000)
     checks.ends("many records and little memory", ["tally", many], 10, err="flow_tally: out of memory\n", before=little_memory)
-
-
-def bad_streams(checks: Checks, one: str) -> None:
-    """An output that takes nothing, and an error stream that takes nothing."""
-    line = "flow_tally: output cannot be written\n"
-    with open("/dev/full", "wb") as full:
-        checks.ends("a full device", ["tally", one], 5, err=line, stdout=full)
-        checks.ends("a full device for messages", ["tally"], 2, stderr=full)
-    pipe = closed_pipe()
-    checks.ends("a closed pipe", ["tally", one], 5, err=line, stdout=pipe)
-    checks.ends("a closed pipe for messages", ["tally"], 2, stderr=pipe)
-    os.close(pipe)
 
 
 def drives(checks: Checks) -> None:
@@ -112,29 +89,43 @@ def drives(checks: Checks) -> None:
         ("number", b"callers 2\n1 store 0 1,2,03\n", "line 2: number"),
         ("range", b"callers 65\n", "line 1: range"),
         ("held", b"callers 2\n0 hold 1\n1 look\n", "line 3: held"),
-        ("too_many", b"callers 1\n" + b"0 load 0\n" * 65_537, "line 65538: too many"),
     ):
         checks.ends(f"no script, {name}", ["drive", checks.file("bad_" + name, script)], 9, err=f"flow_tally: script {line}\n")
-    longest = b"callers 1\n" + b"0 load 0\n" * 65_536
-    checks.ends("the longest script", ["drive", checks.file("longest", longest)], 0, b"0\n" * 65_536 + b"nodes 4128 free 4096 live 32\n")
+
+
+def one_record(checks: Checks) -> None:
+    """The file of one record, and what most parts do with it."""
+    data = fold.datagram([fold.record(0x0A000001, 0x0A000002, 1, 12, 3400, 1000, 2000, 1234, 80, 6, 0)])
+    one = checks.file("one.nf5", data)
+    line = b"10.0.0.1 10.0.0.2 1234 80 6 0 1 12 3400 1000 2000\nflows 1 packets 12 octets 3400 records 1 datagrams 1\n"
+    checks.ends("one record", ["tally", one], 0, line)
+    bad_words(checks, one)
+    bad_files(checks, one, data)
+
+
+PARTS = {
+    "one_record": one_record,
+    "tallies": tallies,
+    "drives": drives,
+    "trials": trials.trials,
+    "limits": limits.limits,
+    "devices": devices.devices,
+    "recipes": lambda checks: recipes.recipes(checks, TOP),
+}
 
 
 def main() -> None:
     program = os.path.abspath(sys.argv[1]) if len(sys.argv) > 1 else built_program()
-    with tempfile.TemporaryDirectory() as folder:
-        checks = Checks(program, folder)
-        data = fold.datagram([fold.record(0x0A000001, 0x0A000002, 1, 12, 3400, 1000, 2000, 1234, 80, 6, 0)])
-        one = checks.file("one.nf5", data)
-        checks.ends("one record", ["tally", one], 0, b"10.0.0.1 10.0.0.2 1234 80 6 0 1 12 3400 1000 2000\nflows 1 packets 12 octets 3400 records 1 datagrams 1\n")
-        tallies(checks)
-        bad_words(checks, one)
-        bad_files(checks, one, data)
-        bad_streams(checks, one)
-        drives(checks)
-        trials.trials(checks)
-        recipes.recipes(checks, TOP)
-    print(f"checks: {checks.made - checks.failed} passed, {checks.failed} failed")
-    sys.exit(1 if checks.failed else 0)
+    made, failed = 0, 0
+    for name in sys.argv[2:] or PARTS:
+        began = time.monotonic()
+        with tempfile.TemporaryDirectory() as folder:
+            checks = Checks(program, folder)
+            PARTS[name](checks)
+        made, failed = made + checks.made, failed + checks.failed
+        print(f"checks of {name}: {checks.made - checks.failed} passed, {checks.failed} failed, {time.monotonic() - began:.0f} s", flush=True)
+    print(f"checks: {made - failed} passed, {failed} failed")
+    sys.exit(1 if failed else 0)
 
 
 if __name__ == "__main__":

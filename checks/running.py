@@ -2,13 +2,36 @@
 import os
 import resource
 import subprocess
+import sys
 
 import orders
 
+TOP = os.path.dirname(os.path.dirname(os.path.abspath(__file__)))
 USAGE = (
     "flow_tally: usage: tally [--workers W] [--flows F] [--buckets B] FILE... or drive [--buckets B] [--share Q] FILE"
     " or trial [--workers W] [--flows F] [--buckets B] START N\n"
 )
+
+
+def newest_source() -> float:
+    """When a source of the program was changed last, in seconds since 1970."""
+    newest = os.path.getmtime(os.path.join(TOP, "crates.txt"))
+    for crate in os.scandir(os.path.join(TOP, "crates")):
+        for kind in ("src", "specs", "proofs"):
+            for folder, _, names in os.walk(os.path.join(crate.path, kind)):
+                newest = max(newest, os.path.getmtime(folder), *(os.path.getmtime(os.path.join(folder, name)) for name in names))
+    return newest
+
+
+def built_program() -> str:
+    """The program that `rt ci` or `rt run` built from the sources as they are."""
+    folder = os.path.join(TOP, "crates", "flow_tally")
+    program = os.path.join(folder, "out", "flow_tally")
+    if not os.path.isfile(program):
+        subprocess.run(["rt", "run", "--", "tally", "data/one_record.nf5"], cwd=folder, stdout=subprocess.DEVNULL, check=True)
+    elif os.path.getmtime(program) < newest_source():
+        sys.exit(f"checks: {program} is older than its sources; build it: (cd crates/flow_tally && rt run -- tally data/one_record.nf5)")
+    return program
 
 
 class Checks:
@@ -17,6 +40,7 @@ class Checks:
     def __init__(self, program: str, folder: str) -> None:
         self.program = program
         self.folder = folder
+        self.seconds = 120  # that a run may take
         self.made = 0
         self.failed = 0
 
@@ -26,10 +50,15 @@ class Checks:
         return name
 
     def ran(self, words: list, **how) -> subprocess.CompletedProcess:
-        return subprocess.run(
-            [self.program, *words], cwd=self.folder, stdin=subprocess.DEVNULL, timeout=120,
-            stdout=how.get("stdout", subprocess.PIPE), stderr=how.get("stderr", subprocess.PIPE), preexec_fn=how.get("before"),
-        )
+        """The program, run with these words; it has no status where it doesn't end in time."""
+        words = [self.program, *words]
+        try:
+            return subprocess.run(
+                words, cwd=self.folder, stdin=subprocess.DEVNULL, timeout=self.seconds, check=False, env=how.get("env"),
+                stdout=how.get("stdout", subprocess.PIPE), stderr=how.get("stderr", subprocess.PIPE), preexec_fn=how.get("before"),
+            )
+        except subprocess.TimeoutExpired:
+            return subprocess.CompletedProcess(words, None, b"", b"")
 
     def ends(self, what: str, words: list, status: int, out: bytes = b"", err: str = "", **how) -> None:
         """The program, run with these words, ends with this status and writes this to its streams."""
@@ -40,18 +69,22 @@ class Checks:
         if "stderr" not in how:
             self.is_same(what + ": standard error", ran.stderr, err.encode())
 
-    def ends_or_wants_memory(self, what: str, words: list, out: bytes, mebibytes: int) -> None:
-        """The program, run within so much memory, writes this; or it says that memory ran out, and writes nothing."""
+    def ends_or_wants_memory(self, what: str, words: list, out: bytes, mebibytes: int, enough: int) -> None:
+        """The program, run within so much memory, writes this.
+
+        Where that is less than enough, it may say that memory ran out instead, and write nothing.
+        """
         ran = self.ran(words, before=lambda: keep_within(mebibytes))
         done, wants = (0, out, b""), (10, b"", b"flow_tally: out of memory\n")
         found = (ran.returncode, ran.stdout, ran.stderr)
-        self.is_same(f"{what}, within {mebibytes} MiB", found, wants if found == wants else done)
+        may_want = mebibytes < enough and found == wants
+        self.is_same(f"{what}, within {mebibytes} MiB", found, wants if may_want else done)
 
     def explains(self, what: str, script: bytes, share: int, buckets: int) -> None:
         """An order of the script's calls explains what the program writes."""
         words = ["drive", "--share", str(share), "--buckets", str(buckets), self.file("script", script)]
         ran = self.ran(words)
-        self.is_same(f"a script, {what}: status", ran.returncode, 0)
+        self.is_same(f"a script, {what}: status and standard error", (ran.returncode, ran.stderr), (0, b""))
         self.is_same(f"a script, {what}: an order explains it", orders.is_explained(script, ran.stdout, share, buckets), True)
 
     def is_same(self, what: str, found, wanted) -> None:

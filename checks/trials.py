@@ -17,6 +17,7 @@ ROWS = (
     (["--flows", "4096"], 7, 2000, "flows 1024 packets 139042 octets 13904200 records 30900 datagrams 2000"),
     (["--flows", "1024"], 0, 65536, MILLION),
 )
+ENOUGH = 512  # mebibytes with which each trial of 4 workers and the flows and buckets of no option ends well
 FEW = (0, 1, 30, 31)  # none, one, a round of sizes, and one more
 ONE = b"flows 1 packets 1 octets 100 records 1 datagrams 1\n"
 TAKEN = (
@@ -68,24 +69,20 @@ def words_of_trials(checks: Checks) -> None:
 
 
 def limits(checks: Checks) -> None:
-    """The plan's limit, which comes first, and the limit on flows; just within each there is no such refusal."""
+    """The limit on flows, and a plan that is far too large."""
     few = ["trial", "--flows", "1023", "0", "2000"]
     checks.ends("a flow too many", few, 7, err="flow_tally: more than 1023 flows\n")
     checks.ends("two flows too many", ["trial", "--flows", "1", "7", "2"], 7, err="flow_tally: more than 1 flows\n")
     plan = ["trial", "--workers", "64", "--flows", "1048576", "7", "1"]
     checks.ends("too large a plan of a trial", plan, 11, err="flow_tally: plan too large: 134299712 nodes\n")
-    largest = ["trial", "--workers", "8", "--flows", "1048543", "--buckets", "264", "7", "1"]
-    beyond = [word.replace("264", "265") for word in largest]
-    checks.ends("a node too many", beyond, 11, err="flow_tally: plan too large: 16777217 nodes\n")
-    checks.ends("the largest plan, and little memory", largest, 10, err="flow_tally: out of memory\n", before=little_memory)
 
 
 def little_memories(checks: Checks) -> None:
     many = ["trial", "0", "65536"]
     checks.ends("a long trial and little memory", many, 10, err="flow_tally: out of memory\n", before=little_memory)
-    for mebibytes in (48, 64, 96, 128, 192, 256, 512):
-        checks.ends_or_wants_memory("a short trial", ["trial", "7", "1"], ONE, mebibytes)
-        checks.ends_or_wants_memory("a long trial", many, MILLION.encode() + b"\n", mebibytes)
+    for mebibytes in (48, 64, 96, 128, 192, 256, ENOUGH):
+        checks.ends_or_wants_memory("a short trial", ["trial", "7", "1"], ONE, mebibytes, ENOUGH)
+        checks.ends_or_wants_memory("a long trial", many, MILLION.encode() + b"\n", mebibytes, ENOUGH)
 
 
 def bad_outputs(checks: Checks) -> None:
