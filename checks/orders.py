@@ -3,12 +3,15 @@
 An order keeps each caller's calls in turn, and the plain object gives each its reply in it. Full changes
 nothing, and needs as many nodes as the order of the bucket's records says.
 """
+import re
+
 from scripts import numbers, spelled
 
 WORD = (1 << 64) - 1
 REGISTERS = 16
 CLAIMS = 4
 MOST_STATES = 20_000
+FULL = re.compile(r"full need (0|[1-9]\d*) free (0|[1-9]\d*)")
 
 
 def bucket_of(key: tuple, buckets: int) -> int:
@@ -32,6 +35,14 @@ class Course:
 
     def state(self) -> tuple:
         return self.registers, tuple(sorted(self.buckets.items())), self.costs
+
+    def content(self, cell: tuple) -> str:
+        """What a register or a key has now, as a reply tells it."""
+        kind, name = cell
+        if kind == "register":
+            return spelled(self.registers[name])
+        pairs = self.buckets.get(bucket_of(name, self.plan[2]), ())
+        return next((spelled(value) for key, value in pairs if key == name), "absent")
 
     def with_register(self, register: int, record: tuple) -> "Course":
         after = self.copy()
@@ -80,13 +91,26 @@ class Course:
         return "yes", self.with_bucket(bucket, front + ((key, values[1]),) + rest, caller, 0), place + 1
 
     def may_refuse(self, caller: int, reply: str, needed: int) -> bool:
-        _, _, need, _, free = reply.split(" ")
+        found = FULL.fullmatch(reply)
+        if found is None:
+            return False
+        need, free = (int(number) for number in found.groups())
         stock = self.plan[1] - self.costs[caller]
-        return int(need) == needed and int(free) < needed and stock - CLAIMS * self.plan[0] <= int(free) <= stock
+        return need == needed and free < needed and stock - CLAIMS * self.plan[0] <= free <= stock
+
+
+def lines_in(out: bytes):
+    """The output's lines, each of which ends with one line feed; None where it is no such text."""
+    if not out.endswith(b"\n") or any(byte != 10 and not 32 <= byte < 127 for byte in out):
+        return None
+    return out.decode("ascii").split("\n")[:-1]
 
 
 def turns_of(script: bytes, replies: list, callers: int) -> list:
-    """Each caller's calls with their replies, in turn; a hold has the record that is looked at under it."""
+    """Each caller's calls with their replies, in turn; a hold has the record that is looked at under it.
+
+    None where a hold or a release has another reply than done, or two looks under one hold differ.
+    """
     turns = [[] for _ in range(callers)]
     holds = {}
     for line, reply in zip(script.decode().splitlines()[1:], replies):
@@ -97,13 +121,43 @@ def turns_of(script: bytes, replies: list, callers: int) -> list:
             if hold[2] not in (None, reply):
                 return None
             hold[2] = reply
-        elif name != "drop":
+        elif name == "drop":
+            if reply != "done":
+                return None
+        else:
             own.append([name, words, None if name == "hold" else reply])
             if name == "hold":
                 if reply != "done":
                     return None
                 holds[caller] = own[-1]
     return turns
+
+
+def looked_at(name: str, words: list) -> tuple:
+    """The register or the key of a call."""
+    return ("key", numbers(words[0], 2)) if name in ("find", "insert", "replace", "remove") else ("register", int(words[0]))
+
+
+def content_told(name: str, words: list, reply):
+    """The content that a call found by its reply; None where the reply doesn't tell."""
+    if reply is None or name == "store" or reply == "no" or reply.startswith("full"):
+        return None
+    if name in ("load", "hold"):
+        return reply
+    if reply == "absent" or name == "insert" and reply == "done":
+        return "absent"
+    return spelled(numbers(words[1], 5)) if reply == "yes" else reply.split(" ")[-1]
+
+
+def tellers_in(turns: list) -> dict:
+    """The calls that tell of a content, by what they looked at and that content: the caller, and the call's place."""
+    tellers = {}
+    for caller, own in enumerate(turns):
+        for place, (name, words, reply) in enumerate(own):
+            told = content_told(name, words, reply)
+            if told is not None:
+                tellers.setdefault((looked_at(name, words), told), []).append((caller, place))
+    return tellers
 
 
 def step(course: Course, caller: int, turn: list):
@@ -124,6 +178,24 @@ def read_on(course: Course, turns: list, places: list) -> None:
             places[caller] += 1
 
 
+def changes_from(course: Course, turns: list, places: list, tellers: dict) -> list:
+    """What each caller's next call leads to; those come last whose old content the fewest later calls tell of."""
+    found = []
+    for caller, own in enumerate(turns):
+        if places[caller] == len(own):
+            continue
+        turn = own[places[caller]]
+        after = step(course, caller, turn)
+        if after is not None:
+            later = list(places)
+            later[caller] += 1
+            cell = looked_at(turn[0], turn[1])
+            waiting = sum(place >= later[other] for other, place in tellers.get((cell, course.content(cell)), ()))
+            found.append((waiting, after, later))
+    found.sort(key=lambda change: -change[0])
+    return [(after, later) for _, after, later in found]
+
+
 def ends_of(course: Course) -> list:
     """The last contents and the nodes."""
     callers, share, buckets = course.plan
@@ -136,15 +208,23 @@ def ends_of(course: Course) -> list:
 
 
 def is_explained(script: bytes, out: bytes, share: int, buckets: int) -> bool:
-    """Whether the output is what comes of the script's calls in some order."""
+    """Whether an order of the script's calls is found from which the output comes."""
+    return explained(script, out, share, buckets) is True
+
+
+def explained(script: bytes, out: bytes, share: int, buckets: int, most: int = MOST_STATES):
+    """Whether the output is what comes of the script's calls in some order; None where the search gives up after so many states."""
     count = len(script.decode().splitlines()) - 1
     callers = int(script.decode().split("\n", 1)[0].split(" ")[1])
-    lines = out.decode().splitlines()
-    turns = turns_of(script, lines[:count], callers)
-    if turns is None or len(lines) <= count:
+    lines = lines_in(out)
+    if lines is None or len(lines) <= count:
         return False
+    turns = turns_of(script, lines[:count], callers)
+    if turns is None:
+        return False
+    tellers = tellers_in(turns)
     open_states, seen = [(Course((callers, share, buckets)), [0] * callers)], set()
-    while open_states and len(seen) < MOST_STATES:
+    while open_states and len(seen) < most:
         course, places = open_states.pop()
         read_on(course, turns, places)
         state = (tuple(places), course.state())
@@ -155,11 +235,5 @@ def is_explained(script: bytes, out: bytes, share: int, buckets: int) -> bool:
             if ends_of(course) == lines[count:]:
                 return True
             continue
-        for caller in reversed(range(callers)):
-            if places[caller] < len(turns[caller]):
-                after = step(course, caller, turns[caller][places[caller]])
-                if after is not None:
-                    later = list(places)
-                    later[caller] += 1
-                    open_states.append((after, later))
-    return False
+        open_states += changes_from(course, turns, places, tellers)
+    return None if open_states else False

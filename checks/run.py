@@ -21,7 +21,9 @@ import fold
 import limits
 import recipes
 import scripts
+import stress
 import trials
+import wrong_orders
 from limits import MOST_BYTES
 from running import TOP, USAGE, Checks, built_program, little_memory
 
@@ -106,8 +108,10 @@ def one_record(checks: Checks) -> None:
 PARTS = {
     "one_record": one_record,
     "tallies": tallies,
+    "wrong_orders": wrong_orders.wrong_orders,
     "drives": drives,
     "trials": trials.trials,
+    "stress": stress.stress,
     "limits": limits.limits,
     "devices": devices.devices,
     "recipes": lambda checks: recipes.recipes(checks, TOP),

@@ -46,3 +46,19 @@ def ten_pairs() -> bytes:
     most = 2**64 - 1
     lines = [f"{i % 64} insert {most - i},{i * 977} {most},{i},{most - 1}" for i in range(10)]
     return ("callers 64\n" + "\n".join(lines) + "\n63 find 18446744073709551615\n0 store 15 0,0,0,0,18446744073709551615").encode()
+
+
+def crowded_script(choose: random.Random, callers: int, count: int) -> bytes:
+    """Each caller counts register 0 and the value of key 7 up, side by side with the others, and reads in between.
+
+    All pairs are in one bucket. A caller's pair of its own comes, and goes again or stays.
+    """
+    lines = ["0 insert 7 0"]
+    for caller in range(callers):
+        own = 100 + caller
+        calls = [f"insert {own} {caller}"]
+        for i in range(count):
+            calls += [f"swap 0 {i} {i + 1}", f"replace 7 {i} {i + 1}", choose.choice(["load 0", "find 7", f"find {own}"])]
+        calls += choose.choice([[f"remove {own}"], [f"replace {own} {caller} {caller},1"], []])
+        lines += [f"{caller} {call}" for call in calls]
+    return (f"callers {callers}\n" + "\n".join(lines) + "\n").encode()
