@@ -19,6 +19,7 @@ sys.dont_write_bytecode = True  # the repository stays as it was
 import devices
 import fold
 import limits
+import malformed
 import recipes
 import scripts
 import stress
@@ -114,6 +115,7 @@ PARTS = {
     "stress": stress.stress,
     "limits": limits.limits,
     "devices": devices.devices,
+    "malformed": malformed.malformed,
     "recipes": lambda checks: recipes.recipes(checks, TOP),
 }
 
