@@ -21,6 +21,7 @@ import fold
 import limits
 import malformed
 import recipes
+import refused_memory
 import scripts
 import stress
 import trials
@@ -115,6 +116,7 @@ PARTS = {
     "stress": stress.stress,
     "limits": limits.limits,
     "devices": devices.devices,
+    "refused_memory": refused_memory.refused_memory,
     "malformed": malformed.malformed,
     "recipes": lambda checks: recipes.recipes(checks, TOP),
 }
