@@ -194,10 +194,9 @@ module _ {key : KeyWords} {found : Option (List ℕ)} {before now : SeatData} (m
     goes = goes;
     looked = f.looked;
     first = m.first;
-    there = subst (λ (p : Plan). 0 < p.buckets) (sym plan) m.some;
     on = ap (λ (p : Plan). key_cell p (key_number key)) plan;
     late = f.looked.upto;
-    right = right_at now.view (length now.view.seen) (Find key) (find_reply found) (omega arith)
+    right = right_at now.view (length now.view.seen) (Find key) (find_reply found) (omega arith) (record { there = subst (λ (p : Plan). 0 < p.buckets) (sym plan) m.some; may = tt })
         (reply_is now.view.plan (stock now.view) (state_at now.view.seen (length now.view.seen)) (take (length now.view.seen) now.view.seen)
         (held_by now.view.seen (number now.view) now.view.stands) key found m.value)
         refl;

@@ -9,6 +9,7 @@ use Rattle.cache_hash.specs.declared.asked.Change.TheVariants.{Insert, Replace, 
 use Rattle.seat_history.specs.Change.{is_change}
 use Rattle.seat_history.specs.Contents.{Contents}
 use Rattle.seat_history.specs.Key.{key_number}
+use Rattle.seat_history.specs.Object.{MayCall}
 use Rattle.seat_history.specs.Step.{held_after, is_same, reply_to}
 use Rattle.seat_history.specs.declared.call.Call.{Call}
 use Rattle.seat_history.specs.declared.entry.Entry.{Entry}
@@ -16,7 +17,7 @@ use Rattle.seat_history.specs.declared.key.KeyWords.{KeyWords}
 use Rattle.seat_history.specs.declared.reply.Reply.TheVariants.{Found, Full, Yes}
 use Rattle.step_rules.specs.Bags.{times}
 use Rattle.step_rules.specs.History.{IsThere, cell_of, key_cell}
-use Rattle.step_rules.specs.Lawful.{IsReply}
+use Rattle.step_rules.specs.Lawful.{IsLegal, IsReply}
 use Rattle.step_rules.specs.Records.{is_change_in, value_in}
 use Rattle.step_rules.specs.declared.plan.Plan.{Plan}
 use Rattle.step_rules.specs.declared.view.Counted.{Counted}
@@ -30,6 +31,14 @@ pub there_for : (key : KeyWords) (change : Change) (p : Plan) → 0 < p.buckets 
 there_for key (Insert val) p some = some
 there_for key (Replace old new) p some = some
 there_for key Remove p some = some
+
+pub legal_for : (key : KeyWords) (change : Change) (p : Plan) (held : Option (List ℕ)) → 0 < p.buckets → IsLegal p held (call_for key change)
+legal_for key change p held some = record { there = there_for key change p some; may = may_for change }
+  where
+    may_for : (change : Change) → MayCall held (call_for key change)
+    may_for (Insert val) = tt
+    may_for (Replace old new) = tt
+    may_for Remove = tt
 
 -- the key's value says what is replied and whether the object changes
 pub changes_by : (key : KeyWords) (change : Change) (c : Contents) → is_change c (call_for key change) ≡ would_change change (c.values (key_number key))

@@ -7,7 +7,7 @@ use Rattle.big_atomic.proofs.Paid.{exchanges-append, scan_loads-append}
 use Rattle.big_atomic.specs.Calls.{HoldStays, IsFullAnswer, IsQuiet}
 use Rattle.big_atomic.specs.Ready.{IsReady}
 use Rattle.big_atomic.specs.Turns.{exchanges, lost_steps, scan_loads}
-use Rattle.cache_hash.proofs.Keyed.{changes_by, holds_by, keeps_same, keeps_then, never_full, on_key, plain_is_reply, replies_by, there_for, tries_then}
+use Rattle.cache_hash.proofs.Keyed.{changes_by, holds_by, keeps_same, keeps_then, legal_for, never_full, on_key, plain_is_reply, replies_by, tries_then}
 use Rattle.cache_hash.proofs.Progress.{going_on, looks_onward, needs_more, scanned_more, wants_more}
 use Rattle.cache_hash.proofs.Walking.{Cleared, cleared_part}
 use Rattle.cache_hash.specs.Asking.{HasEnded, HasValue, IsInsert, NeverChanges, call_for, plain_reply, told_change, told_reply, would_change}
@@ -29,7 +29,7 @@ use Rattle.seat_history.specs.declared.reply.Reply.TheVariants.{Full as FullRepl
 use Rattle.step_rules.proofs.Line.Trails.{goes_on_same}
 use Rattle.step_rules.specs.Claims.{BACK, HOLD, WALK}
 use Rattle.step_rules.specs.History.{GoesOn, cell_of}
-use Rattle.step_rules.specs.Lawful.{IsRight, held_by, is_full}
+use Rattle.step_rules.specs.Lawful.{IsLegal, IsRight, held_by, is_full}
 use Rattle.step_rules.specs.Records.{need_at}
 use Rattle.step_rules.specs.SeatData.{IsSeat, ObjectData, SeatData}
 use Rattle.step_rules.specs.Steps.{HasScanned, MayAnswer}
@@ -147,16 +147,19 @@ module _ {shared : ObjectData} {key : KeyWords} {change : Change} {told : Told} 
   few_retired : k.scanned ≡ true → length now.view.retired ≤ 4 * now.view.plan.seats
   few_retired e = let few = (made e).few in omega (arith, ap (λ (p : Plan). p.seats) plan)
 
+  legal : IsLegal now.view.plan (held_by seen (number now.view) now.view.stands) call
+  legal = legal_for key change now.view.plan (held_by seen (number now.view) now.view.stands) (subst (λ (p : Plan). 0 < p.buckets) (sym plan) i.begins.some)
+
   right_for : (told_now : Told) → Knows key change told_now k.scanned i.steps now
       → IsRight now.view.plan seen now.view.stands (reading (length seen) call (told_reply change told_now) now.view)
-  right_for (Plain there) known = right_at now.view (length seen) call (plain_reply change there) (omega arith)
+  right_for (Plain there) known = right_at now.view (length seen) call (plain_reply change there) (omega arith) legal
       (plain_is_reply change there now.view.plan (stock now.view) here (take (length seen) seen) (held_by seen (number now.view) now.view.stands) call
       (replies_by key change here (held_by seen (number now.view) now.view.stands) ∙ ap (plain_reply change) known.0))
       (sym (ap (λ (b : Bool). b && not (is_full (plain_reply change there))) (changes_by key change here ∙ (ap (would_change change) known.0 ∙ known.1))))
   right_for (Full count free) known =
       let few = few_retired known.2 in
       let all = free_all in
-      let free_now = known.3 in right_at now.view (length seen) call (FullReply count free) (omega arith)
+      let free_now = known.3 in right_at now.view (length seen) call (FullReply count free) (omega arith) legal
       (record { changes = known.0.changes; need_is = known.1; few = known.4; most = omega arith; least = omega arith })
       (sym (and_right (is_change here call) false refl))
 
@@ -173,7 +176,6 @@ module _ {shared : ObjectData} {key : KeyWords} {change : Change} {told : Told} 
     goes = i.goes;
     looked = i.looked;
     first = i.begins.ready.law;
-    there = there_for key change now.view.plan (subst (λ (p : Plan). 0 < p.buckets) (sym plan) i.begins.some);
     on = ap (λ (p : Plan). cell_of p call) plan;
     late = i.looked.upto;
     right = right_for told k.knows;
