@@ -1,12 +1,13 @@
 -- A find as far as it has come, and its end.
-use Rattle.std.proofs.Common.{◌≡◌, ◌≢◌, ◌∙◌, ℕ, ◌*◌, ◌-◌, ◌/◌, ◌<◌, List, [], ◌∷◌, ◌++◌, Option, Some, None, length, take, refl, sym, ap, subst, arith}
+use Rattle.std.proofs.Common.{◌≡◌, ◌≢◌, ◌∙◌, ℕ, ◌*◌, ◌-◌, ◌/◌, ◌<◌, ◌≤◌, List, [], ◌∷◌, ◌++◌, Option, Some, None, length, take, refl, sym, ap, subst, arith}
 use Rattle.std.specs.Option.{option_map_or}
 use Rattle.big_atomic.proofs.Answered.{MayEnd, answered_now, ended_back, goes_of, hold_stays, may_answer, ready_now, right_at}
 use Rattle.big_atomic.proofs.Balance.{nodes_stay}
 use Rattle.big_atomic.proofs.Claimed.{looks_then, lost_longer}
 use Rattle.big_atomic.proofs.Goings.{goes_then, looked_then}
+use Rattle.big_atomic.proofs.Pacing.{paces_then, paces_within}
 use Rattle.big_atomic.proofs.Paid.{exchanges-append, scan_loads-append}
-use Rattle.big_atomic.specs.Calling.{Goes, HasClaim, HasClaimed, HasSeen}
+use Rattle.big_atomic.specs.Calling.{Goes, HasClaim, HasClaimed, HasSeen, Paces}
 use Rattle.big_atomic.specs.Calls.{IsQuiet}
 use Rattle.big_atomic.specs.Ready.{IsReady}
 use Rattle.cache_hash.proofs.Walking.{Lost, OnlyLooks, Way, cleared_part, come_way, moved_lost, way_kept}
@@ -44,44 +45,48 @@ use Rattle.step_rules.specs.declared.view.Kind.TheVariants.{ClaimClear}
 use Rattle.step_rules.specs.declared.view.Stand.{Stand}
 use Rattle.step_rules.specs.declared.view.View.{View}
 
-pub finding_first : (cell word : ℕ) (before now : SeatData) → HasSeen BACK cell word before now → Finding cell before now
+pub finding_first : (cell word : ℕ) (before now : SeatData) → HasSeen BACK cell word 1 before now → Finding cell before now
 finding_first cell word before now s = record {
   steps = s.steps;
   look = s.look;
   goes = s.goes;
   looked = s.looked;
   looks = s.looks;
+  paced = s.paced;
   same = s.stays.same;
   retired = s.stays.retired;
   hold = s.stays.others HOLD (λ e. absurd (omega arith));
   own = s.stays.others OWN (λ e. absurd (omega arith));
 }
 
-pub finding_on : (cell : ℕ) (b : List Counted) (before mid now : SeatData) → Finding cell before mid → OnlyLooks cell b mid now → Finding cell before now
-finding_on cell b before mid now f p = record {
+abbrev pub finding_on : {from to : ℕ} (cell : ℕ) (b : List Counted) (before mid now : SeatData) (f : Finding cell before mid) → Paces 0 from f.steps → OnlyLooks from to cell b mid now → to ≤ 1
+    → Finding cell before now
+finding_on cell b before mid now f paced p serve = record {
   steps = f.steps ++ b;
   look = f.look;
   goes = λ found. goes_then (f.goes found) p.goes;
   looked = looked_then (f.goes None) f.looked p.goes;
   looks = looks_then f.steps b f.looks p.looks;
+  paced = paces_within (paces_then paced p.paced) serve;
   same = only_stepped_then before mid now f.same p.same;
   retired = p.retired ∙ f.retired;
   hold = p.hold ∙ f.hold;
   own = p.own ∙ f.own;
 }
 
-pub seen_part : (cell word : ℕ) (mid now : SeatData) → (s : HasSeen BACK cell word mid now) → OnlyLooks cell s.steps mid now
+pub seen_part : (cell word : ℕ) (mid now : SeatData) → (s : HasSeen BACK cell word 1 mid now) → OnlyLooks 0 1 cell s.steps mid now
 seen_part cell word mid now s = record {
   goes = s.goes (Some (length mid.view.seen));
   looks = s.looks;
+  paced = s.paced;
   same = s.stays.same;
   retired = s.stays.retired;
   hold = s.stays.others HOLD (λ e. absurd (omega arith));
   own = s.stays.others OWN (λ e. absurd (omega arith));
 }
 
-pub finding_again : (cell word : ℕ) (before mid now : SeatData) → Finding cell before mid → HasSeen BACK cell word mid now → Finding cell before now
-finding_again cell word before mid now f s = finding_on cell s.steps before mid now f (seen_part cell word mid now s)
+pub finding_again : (cell word : ℕ) (before mid now : SeatData) (f : Finding cell before mid) → Paces 0 0 f.steps → HasSeen BACK cell word 1 mid now → Finding cell before now
+finding_again cell word before mid now f paced s = finding_on cell s.steps before mid now f paced (seen_part cell word mid now s) (omega arith)
 
 pub has_back : (cell word : ℕ) (seat : SeatData) → HasClaim BACK cell word seat → HasBack cell seat.view
 has_back cell word seat c = record { node = word / 2; stands = c.stands; cell_is = c.cell }
@@ -153,7 +158,7 @@ pub record Walked (cell : ℕ) (key : KeyWords) (found : Option (List ℕ)) (bef
   pub value : value_here now.view (length now.view.seen) key ≡ found
 
 walked : {cell word : ℕ} {key : KeyWords} {found : Option (List ℕ)} {before mid now : SeatData} → Finding cell before mid → OnWay cell word key found mid now → Walked cell key found before now
-walked {cell} {before = before} {mid = mid} {now = now} f o = record { finding = finding_on cell o.way.steps before mid now f o.way.part; value = o.value }
+walked {cell} {before = before} {mid = mid} {now = now} f o = record { finding = finding_on cell o.way.steps before mid now f f.paced o.way.part (omega arith); value = o.value }
 
 pub longer : (cell : ℕ) (mid now : SeatData) → Lost cell mid now → length mid.view.seen < length now.view.seen
 longer cell mid now l = lost_longer cell (length mid.view.seen) now.view.plan now.view.seen l.changed
@@ -193,6 +198,7 @@ module _ {key : KeyWords} {found : Option (List ℕ)} {before now : SeatData} (m
   find_ends = record {
     goes = goes;
     looked = f.looked;
+    paced = f.paced;
     first = m.first;
     on = ap (λ (p : Plan). key_cell p (key_number key)) plan;
     late = f.looked.upto;
@@ -273,11 +279,11 @@ module _ {shared : ObjectData} {key : KeyWords} {cell : ℕ} {before mid : SeatD
   pub loses : (now : SeatData) → IsWalked cell key Moved mid now → Lost cell mid now
   loses now w = way_lost cell c.word key mid now c.claim cell_now w
 
-  pub lost_finding : (now : SeatData) → Lost cell mid now → Finding cell before now
-  lost_finding now l = finding_on cell l.steps before mid now c.finding l.part
+  abbrev pub lost_finding : (now : SeatData) → Lost cell mid now → Finding cell before now
+  lost_finding now l = finding_on cell l.steps before mid now c.finding c.finding.paced l.part (omega arith)
 
   pub claimed_again : (word : ℕ) (lost now : SeatData) → Lost cell mid lost → HasClaimed BACK cell word lost now → Claimed shared key cell before now
-  claimed_again word lost now l h = record { begun = c.begun; finding = finding_again cell word before lost now (lost_finding lost l) h.0; word = word; claim = h.1 }
+  claimed_again word lost now l h = record { begun = c.begun; finding = finding_again cell word before lost now (lost_finding lost l) (paces_then c.finding.paced l.part.paced) h.0; word = word; claim = h.1 }
 
   pub fewer : (word : ℕ) (lost now : SeatData) → Lost cell mid lost → HasClaimed BACK cell word lost now
       → now.view.plan.seats * now.view.plan.changes - length now.view.seen < mid.view.plan.seats * mid.view.plan.changes - length mid.view.seen
@@ -305,7 +311,7 @@ may_end {key = key} {before = before} {now = now} cleared k clears sound =
       first = k.ready.law;
       idle = k.ready.idle;
       some = subst (λ (p : Plan). 0 < p.buckets) (sym k.ready.ours.plan) k.some;
-      finding = finding_on (key_cell before.view.plan (key_number key)) c.steps before now cleared k.finding c.part;
+      finding = finding_on (key_cell before.view.plan (key_number key)) c.steps before now cleared k.finding k.finding.paced c.part (omega arith);
       value = ap (λ (l : List Entry). (state_at l (length l)).values (key_number key)) c.seen ∙ k.value;
       walk = c.none;
     }

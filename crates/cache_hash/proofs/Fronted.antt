@@ -3,11 +3,12 @@ use Rattle.std.proofs.Common.{◌≡◌, ◌≢◌, ◌∙◌, ℕ, ◌*◌, ◌
 use lib.ListN.{get_elem?}
 use Rattle.big_atomic.proofs.Claimed.{loads_still, loads_unscanned, looks_then, lost_longer}
 use Rattle.big_atomic.proofs.Goings.{goes_none, goes_still, goes_then}
-use Rattle.big_atomic.proofs.Paid.{AreStill, lost-append, scan_loads-append, still-append, still_exchanges}
+use Rattle.big_atomic.proofs.Pacing.{paces_still, paces_then}
+use Rattle.big_atomic.proofs.Paid.{AreStill, scan_loads-append, still-append, still_exchanges}
 use Rattle.big_atomic.proofs.Preparing.{stores_still, stores_unscanned}
-use Rattle.big_atomic.specs.Calling.{AreLooks, Goes, OnlySteps}
+use Rattle.big_atomic.specs.Calling.{AreLooks, Goes, OnlySteps, Paces}
 use Rattle.big_atomic.specs.Installing.{HasNear, MayInstall}
-use Rattle.big_atomic.specs.Turns.{lost_steps, scan_loads}
+use Rattle.big_atomic.specs.Turns.{scan_loads}
 use Rattle.cache_hash.proofs.Walking.{link_passed, strayed_lost}
 use Rattle.chain_links.proofs.Doing.{only_back, only_filled, only_noted, only_passed, only_read, only_taken}
 use Rattle.chain_links.specs.Copying.{HoldsCopy, front_steps, put_steps}
@@ -51,11 +52,12 @@ pub record OnlyWords (steps : List Counted) (old now : SeatData) : Type 0 where
   pub first : now.first ≡ old.first
   pub sound : Sound now.view
 
--- steps of a copy: the word found last in the cell stays, or it is the same with its mark cleared
+-- steps of a copy, through which a claim serves on: the word found last in the cell stays, or it is the same with its mark cleared
 pub record CopiesOn (cell word : ℕ) (old now : SeatData) : Type 0 where
   pub steps : List Counted
   pub goes : Goes cell (Some (length old.view.seen)) steps old now
   pub looks : AreLooks steps
+  pub paced : Paces 1 1 steps
   pub near : HasNear cell word now.view
 
 only_words : {cell word : ℕ} {steps : List Counted} {old now : SeatData} → HasNear cell word old.view → OnlyWords steps old now → CopiesOn cell word old now
@@ -71,6 +73,7 @@ only_words {cell} {word} {steps} {old} {now} n w =
       goes = goes_still cell steps old now (subst (λ (z : View). OnlySteps old.view z) (sym w.view) refl) (ap (λ (z : View). z.trail) w.view) (ap (λ (z : View). z.seen) w.view)
           w.still w.object w.first same_stock w.sound;
       looks = record { none_exchanged = still_exchanges steps w.still; none_scanned = w.unscanned };
+      paced = paces_still 1 steps w.still;
       near = subst (λ (z : View). HasNear cell word z) (sym w.view) (record { word = n.word; found = n.found; near = n.near; fell = n.fell });
     }
 
@@ -91,7 +94,7 @@ part_on {cell} seen (passes page) {old = old} {now = now} same sound b n h last 
     let p = link_passed cell seen page old now sound b h in
     let low = p.fell n.word n.found in
     let fell = n.fell in
-    record { steps = p.steps; goes = p.part.goes; looks = p.part.looks; near = record { word = p.word; found = p.found; near = p.near ∙ sym same; fell = omega arith } }
+    record { steps = p.steps; goes = p.part.goes; looks = p.part.looks; paced = p.part.paced; near = record { word = p.word; found = p.found; near = p.near ∙ sym same; fell = omega arith } }
 part_on {cell} {word} seen (notes link) {old = old} same sound b n is last = subst (λ (z : SeatData). CopiesOn cell word old z) (sym is) (only_words n (record {
   still = refl;
   unscanned = refl;
@@ -132,13 +135,13 @@ part_only cell seen (fills held) sound f = only_filled f
 parts_on : {cell word : ℕ} (seen : ℕ) (parts : List Part) {old now : SeatData} → word / 2 ≡ seen / 2 → Sound old.view → HasBack cell old.view → HasNear cell word old.view
     → HasDone cell seen parts old now → CopiesOn cell word old now
 parts_on {cell} {word} seen [] {old = old} same sound b n is = subst (λ (z : SeatData). CopiesOn cell word old z) (sym is)
-    (record { steps = []; goes = goes_none cell old sound; looks = record { none_exchanged = refl; none_scanned = refl }; near = n })
+    (record { steps = []; goes = goes_none cell old sound; looks = record { none_exchanged = refl; none_scanned = refl }; paced = paces_still 1 [] refl; near = n })
 parts_on {cell} seen (part ∷ parts) same sound b n d =
     let p = part_on seen part same sound b n d.1 d.2 in
     let back = only_back (part_only cell seen part sound d.1) in
     let still : HasBack cell d.0.view = record { node = b.node; stands = subst (λ (x : Claim). On x b.node) (sym back) b.stands; cell_is = ap (λ (x : Claim). x.cell) back ∙ b.cell_is } in
     let q = parts_on seen parts same d.2 still p.near d.3 in
-    record { steps = p.steps ++ q.steps; goes = goes_then p.goes q.goes; looks = looks_then p.steps q.steps p.looks q.looks; near = q.near }
+    record { steps = p.steps ++ q.steps; goes = goes_then p.goes q.goes; looks = looks_then p.steps q.steps p.looks q.looks; paced = paces_then p.paced q.paced; near = q.near }
 
 -- THE FRONT IS COPIED
 -- what a turn knows where its call would change the claimed records
@@ -151,6 +154,7 @@ pub record MayPrepare (cell word : ℕ) (call : Call) (mid : SeatData) : Type 0 
 pub record HasPrepared (cell word node : ℕ) (call : Call) (steps : List Counted) (mid copied : SeatData) : Type 0 where
   pub goes : Goes cell (Some (length mid.view.seen)) steps mid copied
   pub looks : AreLooks steps
+  pub paced : Paces 1 1 steps
   pub claims : (c : ℕ) → c ≢ WALK → claim_of c copied.view ≡ claim_of c mid.view
   pub retired : copied.view.retired ≡ mid.view.retired
   pub near : HasNear cell word copied.view
@@ -195,6 +199,7 @@ module _ {cell word : ℕ} {call : Call} {mid copied : SeatData} (m : MayPrepare
     record {
       goes = c.goes;
       looks = c.looks;
+      paced = c.paced;
       claims = o.claims;
       retired = o.retired;
       near = c.near;
@@ -300,16 +305,16 @@ pub remove_prepared : {cell word node at : ℕ} {key : KeyWords} {mid copied : S
 remove_prepared {at = at} {key} {copied = copied} m place h law = front_prepared m h law
     (remove_edit key at copied.view (ap (λ (rs : List (List ℕ)). place_in rs (key_number key)) (records m (parts_only h.only)) ∙ place))
 
--- THE COPY WAS GIVEN UP: the cell names another node, and every node that was taken is free again
+-- THE COPY WAS GIVEN UP: the cell names another node, no claim serves any more, and every node that was taken is free again
 pub record GaveUp (cell : ℕ) (steps : List Counted) (mid now : SeatData) : Type 0 where
   pub goes : Goes cell (Some (length mid.view.seen)) steps mid now
   pub looks : AreLooks steps
+  pub paced : Paces 1 0 steps
   pub claims : (c : ℕ) → c ≢ WALK → claim_of c now.view ≡ claim_of c mid.view
   pub retired : now.view.retired ≡ mid.view.retired
   pub holding : now.holding ≡ []
   pub free : (n : ℕ) → times n now.free ≡ times n mid.free
   pub used : now.fresh ≡ false
-  pub some_lost : 0 < lost_steps steps
   pub longer : length mid.view.seen < length now.view.seen
 
 pub gave_up : {cell word : ℕ} {mid now : SeatData} → HasNear cell word mid.view → On (claim_of BACK mid.view) (word / 2) → (claim_of BACK mid.view).cell ≡ cell → IsSeat mid
@@ -326,12 +331,12 @@ gave_up {cell} {word} {mid} {now} near stands cell_is law h =
       record {
         goes = goes_then {a = c.steps} {b = l.steps ++ []} c.goes (goes_then {a = l.steps} l.part.goes back);
         looks = looks_then c.steps (l.steps ++ []) c.looks (looks_then l.steps [] l.part.looks (record { none_exchanged = refl; none_scanned = refl }));
+        paced = paces_then {a = c.steps} {b = l.steps ++ []} c.paced (paces_then {a = l.steps} l.part.paced (paces_still 0 [] refl));
         claims = h.only.claims;
         retired = ap (λ (z : SeatData). z.view.retired) h.only.same;
         holding = h.holding;
         free = h.free;
         used = ap (λ (z : SeatData). z.fresh) h.turned.frees.same ∙ ap (λ (z : SeatData). z.fresh) l.part.same;
-        some_lost = let some = l.some_lost in omega (arith, lost-append c.steps (l.steps ++ []), lost-append l.steps []);
         longer = omega (arith, ap (λ (z : SeatData). length z.view.seen) h.turned.frees.same);
       },
     )

@@ -5,6 +5,7 @@ use Rattle.std.proofs.lemmas.List.{take-append-drop, take_all}
 use Rattle.big_atomic.proofs.Answered.{HasAnswered, goes_of}
 use Rattle.big_atomic.proofs.Goings.{goes_then, looked_then}
 use Rattle.big_atomic.proofs.Installed.{EndsChange, LostInstall, change_ready, change_records, change_scanned, change_tried, lost_install, no_lock, won_change}
+use Rattle.big_atomic.proofs.Pacing.{paces_then}
 use Rattle.big_atomic.proofs.Paid.{exchanges-append, lost-append, scan_loads-append}
 use Rattle.big_atomic.proofs.Winning.{all_steps, has_won, stand, won_on, won_plan, won_stays, won_told}
 use Rattle.big_atomic.specs.Installing.{HasInstalled, HasMoved}
@@ -15,7 +16,7 @@ use Rattle.cache_hash.proofs.Keyed.{changes_in, exchange_tries, holds_by, never_
 use Rattle.cache_hash.proofs.Progress.{Onward, going_of, going_on, wants_more}
 use Rattle.cache_hash.specs.Asking.{HasEnded, IsEditOf, IsInsert, NeverChanges, call_for, plain_reply, would_change}
 use Rattle.cache_hash.specs.Calls.{WantsNodes, value_at}
-use Rattle.cache_hash.specs.Changing.{Begins, Changing, HasTried, MayMake, Scans}
+use Rattle.cache_hash.specs.Changing.{Begins, Changing, HasLostTurn, MayMake, Scans}
 use Rattle.cache_hash.specs.declared.asked.Change.{Change}
 use Rattle.cache_hash.specs.declared.asked.Due.{Due}
 use Rattle.cache_hash.specs.declared.asked.Told.TheVariants.{Plain}
@@ -152,14 +153,15 @@ module _ {shared : ObjectData} {key : KeyWords} {change : Change} {cell word : �
   ever : NeverChanges change → ⊥
   ever never = false≢true (sym (never due.there) ∙ m.decides.1)
 
-  pub gave_up_turn : {now : SeatData} → IsCopied cell due.edit Moved mid now → HasTried shared key change cell scanned before now × (length mid.view.seen < length now.view.seen)
+  pub gave_up_turn : {now : SeatData} → IsCopied cell due.edit Moved mid now → HasLostTurn shared key change cell scanned before mid now
   gave_up_turn {now} copies =
       let up = given_up key change due.edit m.decides.3 copies in
       let g = gave_up m.chain.near m.chain.stands m.chain.cell_is m.chain.law up.0 in
       let b : List Counted = g.0 in
       let u : GaveUp cell b mid now = g.1 in
-      let onward : Onward key change cell b mid now = record {
+      let onward : Onward 1 0 key change cell b mid now = record {
         goes = u.goes;
+        paced = u.paced;
         idle = λ idle. u.holding;
         used = u.used;
         hold = u.claims HOLD (λ e. absurd (omega arith));
@@ -169,8 +171,14 @@ module _ {shared : ObjectData} {key : KeyWords} {change : Change} {cell word : �
         free = λ _. record { nodes = u.free; order = λ insert. absurd (up.1 insert) };
         never = λ _. u.looks.none_exchanged;
       } in
-      let lost = u.some_lost in
-      (record { going = going_on i onward; tried = λ yes. record { tried = omega (arith, lost-append i.steps b); exchanged = λ insert. absurd (up.1 insert) } }, u.longer)
+      let lost = u.paced.rounds in record {
+        so_far = record {
+          going = going_on i i.paced onward (omega arith);
+          tried = λ yes. record { tried = omega (arith, lost-append i.steps b); exchanged = λ insert. absurd (up.1 insert) };
+        };
+        paced = paces_then i.paced u.paced;
+        longer = u.longer;
+      }
 
 -- THE FRONT WAS COPIED
 pub record HasFront (shared : ObjectData) (key : KeyWords) (change : Change) (cell word : ℕ) (due : Due) (scanned : Bool) (node : ℕ) (before mid copied : SeatData) : Type 0 where
@@ -201,12 +209,13 @@ module _ {shared : ObjectData} {key : KeyWords} {change : Change} {cell word : �
     lost : LostInstall cell copied now
     lost = lost_install moved last
 
-    onward : Onward key change cell (h.steps ++ lost.steps) mid now
+    onward : Onward 1 0 key change cell (h.steps ++ lost.steps) mid now
     onward =
         let none = lost.none_scanned in
         let none_before = h.prepared.looks.none_scanned in
         let tried = lost.some_tried in record {
           goes = goes_then h.prepared.goes lost.goes;
+          paced = paces_then h.prepared.paced lost.paced;
           idle = λ idle. moved.holding;
           used = ap (λ (z : SeatData). z.fresh) moved.ends;
           hold = lost.others HOLD (λ e. absurd (omega arith)) ∙ h.prepared.claims HOLD (λ e. absurd (omega arith));
@@ -217,18 +226,19 @@ module _ {shared : ObjectData} {key : KeyWords} {change : Change} {cell word : �
           never = λ never. absurd (ever h.may never);
         }
 
-    pub lost_turn : HasTried shared key change cell scanned before now × (length mid.view.seen < length now.view.seen)
+    pub lost_turn : HasLostTurn shared key change cell scanned before mid now
     lost_turn =
         let tried = lost.some_tried in
         let longer = lost.longer in
-        let before_that = longer_seen mid.view.seen copied.view.seen h.prepared.goes.seen in (
-          record {
-            going = going_on j onward;
+        let before_that = longer_seen mid.view.seen copied.view.seen h.prepared.goes.seen in record {
+          so_far = record {
+            going = going_on j j.paced onward (omega arith);
             tried = λ yes. exchange_tries (call_for key change) (j.steps ++ (h.steps ++ lost.steps))
                 (omega (arith, exchanges-append j.steps (h.steps ++ lost.steps), exchanges-append h.steps lost.steps));
-          },
-          omega arith,
-        )
+          };
+          paced = paces_then j.paced onward.paced;
+          longer = omega arith;
+        }
 
 -- IT WON
 -- the key's value at a place, as its bucket's records tell
@@ -281,6 +291,7 @@ module _ {shared : ObjectData} {key : KeyWords} {change : Change} {word : ℕ} {
       looked = looked_then going.goes going.looked h.prepared.goes;
       hold = h.prepared.claims HOLD (λ e. absurd (omega arith)) ∙ going.hold;
     };
+    paced = paces_then going.paced h.prepared.paced;
     installed = installed;
     walk = walk;
     back = back;

@@ -4,10 +4,11 @@ use Rattle.std.proofs.lemmas.Bool.{false≢true}
 use Rattle.std.proofs.lemmas.List.{take-append-le}
 use Rattle.big_atomic.proofs.Answered.{goes_of}
 use Rattle.big_atomic.proofs.Goings.{goes_then, held_stays, looked_then}
+use Rattle.big_atomic.proofs.Pacing.{paces_then, paces_within}
 use Rattle.big_atomic.proofs.Paid.{exchanges-append, scan_loads-append}
-use Rattle.big_atomic.proofs.Scanning.{own_words, own_words_later, scan_all, scan_goes, scan_tried, scan_view, scanned_now}
+use Rattle.big_atomic.proofs.Scanning.{own_words, own_words_later, scan_all, scan_goes, scan_paced, scan_tried, scan_view, scanned_now}
 use Rattle.big_atomic.proofs.Shortage.{hold_word}
-use Rattle.big_atomic.specs.Calling.{Goes}
+use Rattle.big_atomic.specs.Calling.{Goes, Paces}
 use Rattle.big_atomic.specs.Turns.{exchanges, scan_loads}
 use Rattle.cache_hash.proofs.Keyed.{keeps_same, keeps_then}
 use Rattle.cache_hash.proofs.Walking.{OnlyLooks}
@@ -66,9 +67,10 @@ scanned_more w b least held hold plan s = record {
   own_words = own_words_later least held hold s.own_words;
 }
 
--- MORE STEPS of the call, none of a scan, after which the seat holds no node
-pub record Onward (key : KeyWords) (change : Change) (cell : ℕ) (b : List Counted) (mid now : SeatData) : Type 0 where
+-- MORE STEPS of the call, none of a scan, after which the seat holds no node. So many claims serve before them, and so many after them
+pub record Onward (from to : ℕ) (key : KeyWords) (change : Change) (cell : ℕ) (b : List Counted) (mid now : SeatData) : Type 0 where
   pub goes : Goes cell (Some (length mid.view.seen)) b mid now
+  pub paced : Paces from to b
   pub idle : mid.holding ≡ [] → now.holding ≡ []
   pub used : now.fresh ≡ false
   pub hold : claim_of HOLD now.view ≡ claim_of HOLD mid.view
@@ -78,8 +80,8 @@ pub record Onward (key : KeyWords) (change : Change) (cell : ℕ) (b : List Coun
   pub free : exchanges b ≡ 0 → KeepsFree (call_for key change) mid.free now.free
   pub never : NeverChanges change → exchanges b ≡ 0
 
-pub scans_on : {key : KeyWords} {change : Change} {cell : ℕ} {b : List Counted} {mid now : SeatData} (scanned : Bool) (call : Call) (steps : List Counted) (look : ℕ) (before : SeatData)
-    → Sound mid.view → Onward key change cell b mid now → Scans scanned call steps look before mid → Scans scanned call (steps ++ b) look before now
+pub scans_on : {from to : ℕ} {key : KeyWords} {change : Change} {cell : ℕ} {b : List Counted} {mid now : SeatData} (scanned : Bool) (call : Call) (steps : List Counted) (look : ℕ) (before : SeatData)
+    → Sound mid.view → Onward from to key change cell b mid now → Scans scanned call steps look before mid → Scans scanned call (steps ++ b) look before now
 scans_on {b = b} false call steps look before sound o s =
     let none = o.none_scanned in
     let none_before = s.none in record { none = omega (arith, scan_loads-append steps b); retired = o.retired ∙ s.retired }
@@ -95,13 +97,15 @@ scans_on {b = b} {now = now} true call steps look before sound o s =
     }
 
 module _ {shared : ObjectData} {key : KeyWords} {change : Change} {cell : ℕ} {scanned : Bool} {before mid : SeatData} (i : Changing shared key change cell scanned before mid) where
-  abbrev pub going_on : {b : List Counted} {now : SeatData} → Onward key change cell b mid now → Changing shared key change cell scanned before now
-  going_on {b} {now} o = record {
+  abbrev pub going_on : {from to : ℕ} {b : List Counted} {now : SeatData} → Paces 0 from i.steps → Onward from to key change cell b mid now → to ≤ 1
+      → Changing shared key change cell scanned before now
+  going_on {b = b} {now = now} paced o serve = record {
     begins = i.begins;
     steps = i.steps ++ b;
     look = i.look;
     goes = goes_then i.goes o.goes;
     looked = looked_then i.goes i.looked o.goes;
+    paced = paces_within (paces_then paced o.paced) serve;
     idle = o.idle i.idle;
     used = o.used;
     hold = o.hold ∙ i.hold;
@@ -116,9 +120,10 @@ module _ {shared : ObjectData} {key : KeyWords} {change : Change} {cell : ℕ} {
   going_of = goes_of i.goes i.begins.ready.ours
 
 -- looks and loads
-pub looks_onward : {cell : ℕ} {b : List Counted} {mid now : SeatData} (key : KeyWords) (change : Change) → OnlyLooks cell b mid now → Onward key change cell b mid now
+pub looks_onward : {from to cell : ℕ} {b : List Counted} {mid now : SeatData} (key : KeyWords) (change : Change) → OnlyLooks from to cell b mid now → Onward from to key change cell b mid now
 looks_onward key change p = record {
   goes = p.goes;
+  paced = p.paced;
   idle = λ idle. ap (λ (z : SeatData). z.holding) p.same ∙ idle;
   used = ap (λ (z : SeatData). z.fresh) p.same;
   hold = p.hold;
@@ -153,6 +158,7 @@ module _ {shared : ObjectData} {key : KeyWords} {change : Change} {cell : ℕ} {
         look = i.look;
         goes = goes_then i.goes g;
         looked = looked_then i.goes i.looked g;
+        paced = paces_then i.paced (scan_paced s law last 1);
         idle = ap (λ (z : SeatData). z.holding) s.same ∙ i.idle;
         used = ap (λ (z : SeatData). z.fresh) s.same;
         hold = s.claims HOLD (λ e. absurd (omega arith)) ∙ i.hold;

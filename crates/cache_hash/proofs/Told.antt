@@ -89,7 +89,7 @@ end_on : {shared : ObjectData} {key : KeyWords} {change : Change} {cell : ℕ} {
     → KnowsEnd shared key change cell told before mid → Cleared cell mid now → KnowsEnd shared key change cell told before now
 end_on {key = key} {change = change} {told = told} {mid = mid} {now = now} k c = record {
   scanned = k.scanned;
-  going = going_on k.going (looks_onward key change c.part);
+  going = going_on k.going k.going.paced (looks_onward key change c.part) (omega arith);
   knows = knows_on told key change k.scanned k.going.steps mid now c k.knows;
 }
 
@@ -175,6 +175,7 @@ module _ {shared : ObjectData} {key : KeyWords} {change : Change} {told : Told} 
   told_end = record {
     goes = i.goes;
     looked = i.looked;
+    paced = i.paced;
     first = i.begins.ready.law;
     on = ap (λ (p : Plan). cell_of p call) plan;
     late = i.looked.upto;

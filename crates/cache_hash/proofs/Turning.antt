@@ -3,8 +3,9 @@ use Rattle.std.proofs.Common.{◌≡◌, ◌∙◌, ℕ, ◌+◌, ◌*◌, ◌-�
 use Rattle.std.proofs.Math.Nat.{le-max_right}
 use Rattle.std.proofs.lemmas.Bool.{false≢true}
 use Rattle.std.proofs.lemmas.List.{take_all}
+use Rattle.big_atomic.proofs.Pacing.{paces_then}
 use Rattle.big_atomic.proofs.Scanning.{scan_view}
-use Rattle.big_atomic.specs.Calling.{Goes, HasClaimed}
+use Rattle.big_atomic.specs.Calling.{Goes, HasClaimed, Paces}
 use Rattle.big_atomic.specs.Installing.{HasNear}
 use Rattle.big_atomic.specs.Ready.{IsReady}
 use Rattle.cache_hash.proofs.Finding.{OnWay, has_back, longer, seen_part, value_of_records, way_counts, way_end, way_found, way_lost}
@@ -12,7 +13,7 @@ use Rattle.cache_hash.proofs.Keyed.{changes_by, keeps_same, on_key, there_for, t
 use Rattle.cache_hash.proofs.Progress.{Onward, after_scan, going_on, looks_onward}
 use Rattle.cache_hash.specs.Asking.{Decides, call_for, would_change}
 use Rattle.cache_hash.specs.Calls.{NeedsNodes, value_at}
-use Rattle.cache_hash.specs.Changing.{Begins, Changing, HasDecided, HasTried, HasTurned, IsAtTurn, IsDue, KnowsChain, KnowsEnd, MakesRoom, MayMake}
+use Rattle.cache_hash.specs.Changing.{Begins, Changing, HasDecided, HasLostTurn, HasTried, HasTurned, IsAtTurn, IsDue, KnowsChain, KnowsEnd, MakesRoom, MayMake}
 use Rattle.cache_hash.specs.Changing.MakesRoom.{scans, stays}
 use Rattle.cache_hash.specs.declared.asked.Change.{Change}
 use Rattle.cache_hash.specs.declared.asked.Decision.{Decision}
@@ -70,6 +71,7 @@ first_turn {key = key} {change = change} b h = let s = h.0 in record {
       look = s.look;
       goes = s.goes None;
       looked = s.looked;
+      paced = s.paced;
       idle = ap (λ (z : SeatData). z.holding) s.stays.same ∙ b.ready.idle;
       used = ap (λ (z : SeatData). z.fresh) s.stays.same;
       hold = s.stays.others HOLD (λ e. absurd (omega arith));
@@ -85,28 +87,28 @@ first_turn {key = key} {change = change} b h = let s = h.0 in record {
 
 -- A FURTHER ONE
 -- what was tried stays so
-tried_more : {shared : ObjectData} {key : KeyWords} {change : Change} {cell : ℕ} {scanned : Bool} {before mid now : SeatData} {b : List Counted} → HasTried shared key change cell scanned before mid
-    → Onward key change cell b mid now → HasTried shared key change cell scanned before now
-tried_more {key = key} {change = change} {b = b} t o = record {
-  going = going_on t.going o;
+abbrev tried_more : {shared : ObjectData} {key : KeyWords} {change : Change} {cell from to : ℕ} {scanned : Bool} {before mid now : SeatData} {b : List Counted}
+    (t : HasTried shared key change cell scanned before mid) → Paces 0 from t.going.steps → Onward from to key change cell b mid now → to ≤ 1 → HasTried shared key change cell scanned before now
+tried_more {key = key} {change = change} {b = b} t paced o serve = record {
+  going = going_on t.going paced o serve;
   tried = λ yes. tries_then t.going.steps b (t.tried yes);
 }
 
-pub next_turn : {shared : ObjectData} {key : KeyWords} {change : Change} {cell word : ℕ} {scanned : Bool} {before mid now : SeatData} → HasTried shared key change cell scanned before mid
+pub next_turn : {shared : ObjectData} {key : KeyWords} {change : Change} {cell word : ℕ} {scanned : Bool} {before old mid now : SeatData} → HasLostTurn shared key change cell scanned before old mid
     → HasClaimed BACK cell word mid now → IsAtTurn shared key change cell word scanned before now
-next_turn {key = key} {change = change} {cell = cell} {word = word} {mid = mid} {now = now} t h =
-    record { so_far = tried_more t (looks_onward key change (seen_part cell word mid now h.0)); claim = h.1 }
+next_turn {key = key} {change = change} {cell = cell} {word = word} {mid = mid} {now = now} l h =
+    record { so_far = tried_more l.so_far l.paced (looks_onward key change (seen_part cell word mid now h.0)) (omega arith); claim = h.1 }
 
 pub turn_smaller : {shared : ObjectData} {key : KeyWords} {change : Change} {cell word next : ℕ} {scanned made : Bool} {before last mid now : SeatData}
-    → IsAtTurn shared key change cell word scanned before last → HasTried shared key change cell made before mid × (length last.view.seen < length mid.view.seen) → HasClaimed BACK cell next mid now
+    → IsAtTurn shared key change cell word scanned before last → HasLostTurn shared key change cell made before last mid → HasClaimed BACK cell next mid now
     → now.view.plan.seats * now.view.plan.changes - length now.view.seen < last.view.plan.seats * last.view.plan.changes - length last.view.seen
-turn_smaller {cell = cell} {last = last} {mid = mid} {now = now} at t h =
+turn_smaller {cell = cell} {last = last} {mid = mid} {now = now} at l h =
     let g : Goes cell None h.0.steps mid now = h.0.goes None in
     let further = longer_seen mid.view.seen now.view.seen g.seen in
-    let more = t.1 in
+    let more = l.longer in
     let within = g.sound.within in
     let plan : now.view.plan ≡ last.view.plan =
-    ap (λ (z : View). z.plan) g.only ∙ (ap (λ (z : View). z.plan) t.0.going.goes.only ∙ sym (ap (λ (z : View). z.plan) at.so_far.going.goes.only)) in
+    ap (λ (z : View). z.plan) g.only ∙ (ap (λ (z : View). z.plan) l.so_far.going.goes.only ∙ sym (ap (λ (z : View). z.plan) at.so_far.going.goes.only)) in
     let all = ap (λ (p : Plan). p.seats * p.changes) plan in omega arith
 
 -- A TURN'S WALK
@@ -127,7 +129,7 @@ module _ {shared : ObjectData} {key : KeyWords} {change : Change} {cell word : �
   decided : {found : Option (List ℕ)} {now : SeatData} (decision : Decision) → OnWay cell word key found mid now → IsSeat now → Decides key change found (claimed_records now.view) decision
       → HasDecided shared key change cell word decision scanned before now
   decided {found} {now} decision o law decides = record {
-    so_far = tried_more t.so_far (looks_onward key change o.way.part);
+    so_far = tried_more t.so_far i.paced (looks_onward key change o.way.part) (omega arith);
     found = found;
     chain = record {
       near = record { word = o.way.word; found = o.way.found; near = o.way.near ∙ sym o.near; fell = o.way.fell };
@@ -175,14 +177,19 @@ module _ {shared : ObjectData} {key : KeyWords} {change : Change} {cell word : �
         nodes_low mid.view.plan i.goes.sound.plan,
       )
 
-  pub turn_lost : (now : SeatData) → IsWalked cell key Moved mid now → HasTried shared key change cell scanned before now × (length mid.view.seen < length now.view.seen)
-  turn_lost now w = let l = way_lost cell word key mid now t.claim cell_now w in (tried_more t.so_far (looks_onward key change l.part), longer cell mid now l)
+  pub turn_lost : (now : SeatData) → IsWalked cell key Moved mid now → HasLostTurn shared key change cell scanned before mid now
+  turn_lost now w =
+      let l = way_lost cell word key mid now t.claim cell_now w in record {
+        so_far = tried_more t.so_far i.paced (looks_onward key change l.part) (omega arith);
+        paced = paces_then i.paced l.part.paced;
+        longer = longer cell mid now l;
+      }
 
 -- so it ends as a turn that began earlier
 pub ends_from : (shared : ObjectData) (key : KeyWords) (change : Change) (cell : ℕ) (turn : Turn) (before first mid now : SeatData) → length first.view.seen ≤ length mid.view.seen
     → HasTurned shared key change cell turn before mid now → HasTurned shared key change cell turn before first now
 ends_from shared key change cell (Ends told) before first mid now low t = t
-ends_from shared key change cell (TurnMoved made) before first mid now low t = let more = t.1 in (t.0, omega arith)
+ends_from shared key change cell (TurnMoved made) before first mid now low l = let more = l.longer in record { so_far = l.so_far; paced = l.paced; longer = omega arith }
 
 -- WHAT IS KNOWN of the key's value at the end of what is seen
 module _ {shared : ObjectData} {key : KeyWords} {change : Change} {cell word : ℕ} {scanned : Bool} {found : Option (List ℕ)} {before now : SeatData}

@@ -1,11 +1,12 @@
 -- The steps of a walk as those of a call.
-use Rattle.std.proofs.Common.{◌≡◌, ◌∙◌, ℕ, ◌+◌, ◌/◌, ◌<◌, ◌≤◌, suc, zero, Bool, true, false, not, cond, eq-eqb, ne_eqb, List, [], ◌∷◌, ◌++◌, Some, length, drop, refl, sym, ap, subst, arith, inl, inr}
+use Rattle.std.proofs.Common.{◌≡◌, ◌∙◌, ℕ, ◌+◌, ◌/◌, ◌≤◌, suc, zero, Bool, true, false, not, cond, eq-eqb, ne_eqb, List, [], ◌∷◌, ◌++◌, Some, length, drop, refl, sym, ap, subst, arith, inl, inr}
 use Rattle.std.proofs.Math.ListN.{drop_of_length-le}
 use Rattle.std.proofs.lemmas.List.{get_or-set_other, get_or-set_same}
 use Rattle.big_atomic.proofs.Claimed.{loads_still, loads_unscanned, looks_then, none_later, read_goes}
 use Rattle.big_atomic.proofs.Goings.{LooksAt, goes_look, goes_lost, goes_none, goes_still, goes_then, looks_at, moved_since}
-use Rattle.big_atomic.proofs.Paid.{lost-append, still_exchanges}
-use Rattle.big_atomic.specs.Calling.{AreLooks, Goes, HasClaim, HasFound, OnlySteps}
+use Rattle.big_atomic.proofs.Pacing.{paces_still, paces_then}
+use Rattle.big_atomic.proofs.Paid.{still_exchanges}
+use Rattle.big_atomic.specs.Calling.{AreLooks, Goes, HasClaim, HasFound, OnlySteps, Paces}
 use Rattle.big_atomic.specs.Turns.{is_lost, lost_steps}
 use Rattle.chain_links.proofs.Passing.{Kept, announced_kept, announced_names, back_claim, claim_at_low, come_sound, kept_back, passed_kept, read_kept, rechecked_kept}
 use Rattle.chain_links.specs.Walking.{HasBack, HasCome, HasMoved, HasPassed, HasStrayed}
@@ -30,26 +31,29 @@ use Rattle.step_rules.specs.declared.view.Held.{Held}
 use Rattle.step_rules.specs.declared.view.Kind.TheVariants.{ClaimClear, ClaimStore, Recheck}
 use Rattle.step_rules.specs.declared.view.View.{View}
 
--- looks and loads that leave the seat's lists, but for the links noted, and its claims on Own and Hold
-pub record OnlyLooks (cell : ℕ) (steps : List Counted) (old now : SeatData) : Type 0 where
+-- looks and loads that leave the seat's lists, but for the links noted, and its claims on Own and Hold. So many claims serve before them, and
+-- so many after them
+pub record OnlyLooks (from to cell : ℕ) (steps : List Counted) (old now : SeatData) : Type 0 where
   pub goes : Goes cell (Some (length old.view.seen)) steps old now
   pub looks : AreLooks steps
+  pub paced : Paces from to steps
   pub same : OnlyStepped old now
   pub retired : now.view.retired ≡ old.view.retired
   pub hold : claim_of HOLD now.view ≡ claim_of HOLD old.view
   pub own : claim_of OWN now.view ≡ claim_of OWN old.view
 
-pub only_looks_then : (cell : ℕ) (a b : List Counted) (u v w : SeatData) → OnlyLooks cell a u v → OnlyLooks cell b v w → OnlyLooks cell (a ++ b) u w
+pub only_looks_then : {from mid to : ℕ} (cell : ℕ) (a b : List Counted) (u v w : SeatData) → OnlyLooks from mid cell a u v → OnlyLooks mid to cell b v w → OnlyLooks from to cell (a ++ b) u w
 only_looks_then cell a b u v w p q = record {
   goes = goes_then p.goes q.goes;
   looks = looks_then a b p.looks q.looks;
+  paced = paces_then p.paced q.paced;
   same = only_stepped_then u v w p.same q.same;
   retired = q.retired ∙ p.retired;
   hold = q.hold ∙ p.hold;
   own = q.own ∙ p.own;
 }
 
-read_part : (cell node : ℕ) (words : List ℕ) (old now : SeatData) → IsRead node words old now → Sound now.view → OnlyLooks cell (load_steps node 0 words (length old.view.seen)) old now
+read_part : (cell node : ℕ) (words : List ℕ) (old now : SeatData) → IsRead node words old now → Sound now.view → OnlyLooks 1 1 cell (load_steps node 0 words (length old.view.seen)) old now
 read_part cell node words old now r sound =
     let steps = load_steps node 0 words (length old.view.seen) in record {
       goes = read_goes cell node words old now r sound;
@@ -57,6 +61,7 @@ read_part cell node words old now r sound =
         none_exchanged = still_exchanges steps (loads_still node 0 (length old.view.seen) words);
         none_scanned = loads_unscanned node 0 (length old.view.seen) words;
       };
+      paced = paces_still 1 steps (loads_still node 0 (length old.view.seen) words);
       same = only_stepped old now r.same;
       retired = ap (λ (z : SeatData). z.view.retired) r.same;
       hold = ap (λ (z : SeatData). claim_of HOLD z.view) r.same;
@@ -66,12 +71,13 @@ read_part cell node words old now r sound =
 abbrev announce_step : ℕ → SeatData → Counted
 announce_step link old = counted (ClaimStore WALK link) (link + 1) (length old.view.seen)
 
-announce_part : (cell link : ℕ) (old now : SeatData) → IsAnnounced Walk link old now → Sound now.view → OnlyLooks cell (announce_step link old ∷ []) old now
+announce_part : (cell link : ℕ) (old now : SeatData) → IsAnnounced Walk link old now → Sound now.view → OnlyLooks 1 1 cell (announce_step link old ∷ []) old now
 announce_part cell link old now a sound =
     let view : now.view ≡ announced_view WALK link old.view = ap (λ (z : SeatData). z.view) a in record {
       goes = goes_still cell (announce_step link old ∷ []) old now (subst (λ (z : View). OnlySteps old.view z) (sym view) refl)
           (ap (λ (z : View). z.trail) view) (ap (λ (z : View). z.seen) view) refl (ap (λ (z : SeatData). z.object) a) (ap (λ (z : SeatData). z.first) a) (ap stock view) sound;
       looks = record { none_exchanged = refl; none_scanned = refl };
+      paced = paces_still 1 (announce_step link old ∷ []) refl;
       same = only_stepped old now a;
       retired = ap (λ (z : View). z.retired) view;
       hold = ap (λ (z : View). claim_of HOLD z) view ∙ get_or-set_other old.view.claims WALK HOLD (announced WALK link old.view) (silent 0) (λ e. absurd (omega arith));
@@ -101,10 +107,11 @@ module _ (cell seen found link : ℕ) (old now : SeatData) (near : found / 2 ≡
     sound = sound;
   }
 
-  recheck_part : OnlyLooks cell (recheck_step ∷ []) old now
+  recheck_part : OnlyLooks 1 1 cell (recheck_step ∷ []) old now
   recheck_part = record {
     goes = goes_look (Some (length old.view.seen)) look (ap not (eq-eqb (found / 2) (seen / 2) near));
     looks = record { none_exchanged = refl; none_scanned = refl };
+    paced = record { rounds = omega arith; tries = omega arith };
     same = only_stepped old now same;
     retired = ap (λ (z : View). z.retired) walks.after;
     hold = ap (λ (z : View). claim_of HOLD z) walks.after ∙ get_or-set_other old.view.claims WALK HOLD (walked_claim link cell (length walks.log) old.view) (silent 0) (λ e. absurd (omega arith));
@@ -130,7 +137,7 @@ walk_falls cell seen found word link old now walks sound b last =
 -- since the Back claim began to stand
 pub record Way (cell seen first : ℕ) (old now : SeatData) : Type 0 where
   pub steps : List Counted
-  pub part : OnlyLooks cell steps old now
+  pub part : OnlyLooks 1 1 cell steps old now
   pub back : claim_of BACK now.view ≡ claim_of BACK old.view
   pub noted : now.noted ≡ old.noted
   pub word : ℕ
@@ -160,7 +167,7 @@ way_first cell seen word node words old now claim near r sound = record {
 -- one more link was passed: its steps, and the word found in the cell, which has Back's node, its mark at most cleared since the word found last
 pub record PassedLink (cell seen : ℕ) (old now : SeatData) : Type 0 where
   pub steps : List Counted
-  pub part : OnlyLooks cell steps old now
+  pub part : OnlyLooks 1 1 cell steps old now
   pub word : ℕ
   pub found : HasFound cell word now.view
   pub near : word / 2 ≡ seen / 2
@@ -218,11 +225,10 @@ come_way cell seen word zero old now claim near b h = way_first cell seen word h
 come_way cell seen word (suc n) old now claim near b h =
     way_on cell seen word h.1 old h.0 now (come_way cell seen word n old h.0 claim near b h.2) (come_sound cell seen n old h.0 h.2) b h.4
 
--- looks that were lost: since they began the history has an entry on the cell
+-- looks that were lost: since they began the history has an entry on the cell, and no claim serves any more
 pub record Lost (cell : ℕ) (old now : SeatData) : Type 0 where
   pub steps : List Counted
-  pub part : OnlyLooks cell steps old now
-  pub some_lost : 0 < lost_steps steps
+  pub part : OnlyLooks 1 0 cell steps old now
   pub changed : ¬ NoneOn now.view.plan cell (drop (length old.view.seen) now.view.seen)
 
 -- a link was announced, and another node found
@@ -235,19 +241,19 @@ strayed_lost cell seen word link old now last near s =
     let found : HasFound cell word s.announced.view = still_found link old s.announced s.announces last in
     let moved : ¬ NoneOn s.announced.view.plan cell (drop (length s.announced.view.seen) now.view.seen) = moved_since sees found (λ e. s.rechecks.answers.0 (e ∙ near)) in
     let view = sees.looks.after in
-    let second : OnlyLooks cell c s.announced now = record {
+    let strayed : is_lost (counted (Recheck WALK cell seen) s.found (length now.view.seen)) ≡ true = ap not (ne_eqb (s.found / 2) (seen / 2) s.rechecks.answers.0) in
+    let one : lost_steps c ≡ 1 = ap (λ (b : Bool). length (cond b c [])) strayed in
+    let second : OnlyLooks 1 0 cell c s.announced now = record {
       goes = goes_lost (looks_at (eq-eqb cell cell refl) sees s.announced_sound s.sound) moved;
       looks = record { none_exchanged = refl; none_scanned = refl };
+      paced = record { rounds = omega arith; tries = omega arith };
       same = only_stepped s.announced now s.rechecks.same;
       retired = ap (λ (z : View). z.retired) view;
       hold = ap (λ (z : View). claim_of HOLD z) view;
       own = ap (λ (z : View). claim_of OWN z) view;
-    } in
-    let strayed : is_lost (counted (Recheck WALK cell seen) s.found (length now.view.seen)) ≡ true = ap not (ne_eqb (s.found / 2) (seen / 2) s.rechecks.answers.0) in
-    let one : lost_steps c ≡ 1 = ap (λ (b : Bool). length (cond b c [])) strayed in record {
+    } in record {
       steps = a ++ c;
       part = only_looks_then cell a c old s.announced now first second;
-      some_lost = omega (arith, lost-append a c);
       changed = subst (λ (z : Plan × ℕ). ¬ NoneOn z.0 cell (drop z.1 now.view.seen)) (λ i. (sym (ap (λ (z : View). z.plan) view) i, ap (λ (z : SeatData). length z.view.seen) s.announces i)) moved;
     }
 
@@ -257,7 +263,6 @@ moved_lost cell seen word old now claim near b m =
     let l = strayed_lost cell seen w.word m.page.node m.mid now w.found w.near m.strayed in record {
       steps = w.steps ++ l.steps;
       part = only_looks_then cell w.steps l.steps old m.mid now w.part l.part;
-      some_lost = let some = l.some_lost in omega (arith, lost-append w.steps l.steps);
       changed = λ none. l.changed (none_later now.view.plan cell (length old.view.seen) m.mid.view.seen now.view.seen
           (longer_seen old.view.seen m.mid.view.seen w.part.goes.seen) l.part.goes.seen none);
     }
@@ -265,7 +270,7 @@ moved_lost cell seen word old now claim near b m =
 -- THE WALK CLAIM ENDS, where its word isn't 0
 pub record Cleared (cell : ℕ) (mid now : SeatData) : Type 0 where
   pub steps : List Counted
-  pub part : OnlyLooks cell steps mid now
+  pub part : OnlyLooks 1 1 cell steps mid now
   pub none : (claim_of WALK now.view).word ≡ 0
   pub seen : now.view.seen ≡ mid.view.seen
   pub noted : now.noted ≡ mid.noted
@@ -276,6 +281,7 @@ cleared_part cell mid now used sound last (inl q) = subst (λ (z : SeatData). Cl
   part = record {
     goes = goes_none cell mid sound;
     looks = record { none_exchanged = refl; none_scanned = refl };
+    paced = paces_still 1 [] refl;
     same = λ i. record mid { fresh = used i };
     retired = refl;
     hold = refl;
@@ -293,6 +299,7 @@ cleared_part cell mid now used sound last (inr q) =
         goes = goes_still cell step mid now (subst (λ (z : View). OnlySteps mid.view z) (sym view) refl) (ap (λ (z : View). z.trail) view) (ap (λ (z : View). z.seen) view) refl
             (ap (λ (z : SeatData). z.object) q) (ap (λ (z : SeatData). z.first) q) (ap stock view) last;
         looks = record { none_exchanged = refl; none_scanned = refl };
+        paced = paces_still 1 step refl;
         same = only_stepped mid now q;
         retired = ap (λ (z : View). z.retired) view;
         hold = ap (λ (z : View). claim_of HOLD z) view ∙ get_or-set_other mid.view.claims WALK HOLD (silent 0) (silent 0) (λ e. absurd (omega arith));

@@ -1,6 +1,6 @@
 -- A change of a key's pair as far as it has come.
 use Rattle.std.specs.Prelude.{◌≡◌, ◌⊎◌, ℕ, ◌+◌, ◌*◌, ◌/◌, ◌<◌, ◌≤◌, Bool, true, false, List, [], Option, None, length, filter}
-use Rattle.big_atomic.specs.Calling.{Goes, HasClaim, IsLooked}
+use Rattle.big_atomic.specs.Calling.{Goes, HasClaim, IsLooked, Paces}
 use Rattle.big_atomic.specs.Installing.{HasNear}
 use Rattle.big_atomic.specs.Ready.{IsReady}
 use Rattle.big_atomic.specs.Turns.{exchanges, lost_steps, scan_loads}
@@ -63,14 +63,15 @@ pub record Tries (call : Call) (steps : List Counted) : Type 0 where
   pub tried : 0 < exchanges steps + lost_steps steps
   pub exchanged : IsInsert call → 0 < exchanges steps
 
--- it made these steps; it holds no node, and its Own word is 0. Without a scan and an exchange the free nodes are those at first, and a call that
--- never changes an object tries no exchange
+-- it made these steps, and one claim serves its turn; it holds no node, and its Own word is 0. Without a scan and an exchange the free nodes are
+-- those at first, and a call that never changes an object tries no exchange
 pub record Changing (shared : ObjectData) (key : KeyWords) (change : Change) (cell : ℕ) (scanned : Bool) (before now : SeatData) : Type 0 where
   pub begins : Begins shared key change cell before
   pub steps : List Counted
   pub look : ℕ
   pub goes : Goes cell None steps before now
   pub looked : IsLooked cell steps look before now
+  pub paced : Paces 0 1 steps
   pub idle : now.holding ≡ []
   pub used : now.fresh ≡ false
   pub hold : claim_of HOLD now.view ≡ claim_of HOLD before.view
@@ -83,6 +84,12 @@ pub record Changing (shared : ObjectData) (key : KeyWords) (change : Change) (ce
 pub record HasTried (shared : ObjectData) (key : KeyWords) (change : Change) (cell : ℕ) (scanned : Bool) (before now : SeatData) : Type 0 where
   pub going : Changing shared key change cell scanned before now
   pub tried : scanned ≡ true → Tries (call_for key change) going.steps
+
+-- the cell was found to name another node than the claimed one: more of the history is seen, and no claim serves any more
+pub record HasLostTurn (shared : ObjectData) (key : KeyWords) (change : Change) (cell : ℕ) (scanned : Bool) (before old now : SeatData) : Type 0 where
+  pub so_far : HasTried shared key change cell scanned before now
+  pub paced : Paces 0 0 so_far.going.steps
+  pub longer : length old.view.seen < length now.view.seen
 
 -- a turn begins: the node of the word that was found last in the cell is claimed
 pub record IsAtTurn (shared : ObjectData) (key : KeyWords) (change : Change) (cell word : ℕ) (scanned : Bool) (before now : SeatData) : Type 0 where
@@ -136,7 +143,7 @@ pub record KnowsEnd (shared : ObjectData) (key : KeyWords) (change : Change) (ce
   pub going : Changing shared key change cell scanned before now
   pub knows : Knows key change told scanned going.steps now
 
--- a turn ended the call; or the cell was found to name another node, and more of the history is seen
+-- a turn ended the call, or was lost
 abbrev pub HasTurned : ObjectData → KeyWords → Change → ℕ → Turn → SeatData → SeatData → SeatData → Type 0
 HasTurned shared key change cell (Ends told) before old new = IsReady shared new × HasEnded key change told before new
-HasTurned shared key change cell (Moved made) before old new = HasTried shared key change cell made before new × (length old.view.seen < length new.view.seen)
+HasTurned shared key change cell (Moved made) before old new = HasLostTurn shared key change cell made before old new

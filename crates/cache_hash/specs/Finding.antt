@@ -1,6 +1,6 @@
 -- A find as far as it has come.
 use Rattle.std.specs.Prelude.{◌≡◌, ℕ, ◌<◌, List, Option, length}
-use Rattle.big_atomic.specs.Calling.{AreLooks, Goes, IsLooked}
+use Rattle.big_atomic.specs.Calling.{AreLooks, Goes, IsLooked, Paces}
 use Rattle.big_atomic.specs.Ready.{IsReady}
 use Rattle.cache_hash.specs.Calls.{value_at}
 use Rattle.seat_history.specs.Key.{key_number}
@@ -12,13 +12,14 @@ use Rattle.step_rules.specs.Steps.{OnlyStepped}
 use Rattle.step_rules.specs.Views.{claim_of}
 use Rattle.step_rules.specs.declared.view.Counted.{Counted}
 
--- looks and loads of a call on the cell, from its first look on
+-- looks and loads of a call on the cell, from its first look on; one claim serves its turn
 pub record Finding (cell : ℕ) (before now : SeatData) : Type 0 where
   pub steps : List Counted
   pub look : ℕ
   pub goes : (found : Option ℕ) → Goes cell found steps before now
   pub looked : IsLooked cell steps look before now
   pub looks : AreLooks steps
+  pub paced : Paces 0 1 steps
   pub same : OnlyStepped before now
   pub retired : now.view.retired ≡ before.view.retired
   pub hold : claim_of HOLD now.view ≡ claim_of HOLD before.view

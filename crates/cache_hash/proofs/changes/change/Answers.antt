@@ -19,10 +19,10 @@ pub returns-in-Ends-clause-ended : goal.returns-in-Ends-clause-ended
 returns-in-Ends-clause-ended c = (c.in-Ends.ensures.turned c.args.seat.now c.turns.invariant).1
 
 pub claim_node-word-requires-in-turns-clause-ours : goal.claim_node-word-requires-in-turns-clause-ours
-claim_node-word-requires-in-turns-clause-ours c = going_of (c.in-Moved.ensures.turned c.args.seat.now c.turns.invariant).0.going
+claim_node-word-requires-in-turns-clause-ours c = going_of (c.in-Moved.ensures.turned c.args.seat.now c.turns.invariant).so_far.going
 
 pub turns-smaller : goal.turns-smaller
 turns-smaller c = turn_smaller c.turns.invariant (c.in-Moved.ensures.turned c.args.seat.now c.turns.invariant) c.claim_node-word-in-turns.ensures.claimed
 
 pub turns-preserved : goal.turns-preserved
-turns-preserved c = next_turn (c.in-Moved.ensures.turned c.args.seat.now c.turns.invariant).0 c.claim_node-word-in-turns.ensures.claimed
+turns-preserved c = next_turn (c.in-Moved.ensures.turned c.args.seat.now c.turns.invariant) c.claim_node-word-in-turns.ensures.claimed
