@@ -10,7 +10,7 @@ use lib.ListN.{get_elem?}
 use Rattle.big_atomic.proofs.Goings.{LooksAt, found_at_look, goes_look, goes_lost, goes_still, goes_then, looked_then, looks_at, moved_since}
 use Rattle.big_atomic.proofs.Pacing.{paces_still, paces_then}
 use Rattle.big_atomic.proofs.Paid.{AreStill, exchanges-append, scan_loads-append, still_exchanges}
-use Rattle.big_atomic.specs.Calling.{AreLooks, Goes, HasClaim, HasClaimed, HasClaimedRecord, HasFound, HasRead, HasSeen, HasTried, HasTurned, LookedOnce, OnlySteps, Paces, Stays, TurnedOnce, turn_steps}
+use Rattle.big_atomic.specs.Calling.{AreLooks, Goes, HasClaim, HasClaimed, HasClaimedRecord, HasFound, HasRead, HasSeen, HasTried, HasTurned, LookedOnce, OnlySteps, Stays, TurnedOnce, turn_steps}
 use Rattle.big_atomic.specs.Calls.{register_at}
 use Rattle.big_atomic.specs.Turns.{claim_rounds, is_claim_round, lost_steps, scan_loads}
 use Rattle.hazard_claims.proofs.Rechecking.{stands_told}

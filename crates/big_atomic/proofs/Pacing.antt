@@ -1,5 +1,5 @@
 -- Claim rounds and exchanges, of steps in a row.
-use Rattle.std.proofs.Common.{ℕ, ◌+◌, ◌*◌, ◌≤◌, List, ◌++◌, arith}
+use Rattle.std.proofs.Common.{ℕ, ◌≤◌, List, ◌++◌, arith}
 use Rattle.big_atomic.proofs.Paid.{AreStill, exchanges-append, lost-append, rounds-append, still_exchanges, still_rounds}
 use Rattle.big_atomic.specs.Calling.{Paces}
 use Rattle.step_rules.specs.declared.view.Counted.{Counted}

@@ -60,7 +60,7 @@ pub record Costs (lost tried many : ℕ) (steps : List Counted) : Type 0 where
   pub tried_most : exchanges steps ≤ tried
   pub most : length steps ≤ many
 
--- so many claims serve before these steps (one or none), and so many after them: a claim round begins one, a lost step ends it, and at most two
+-- before these steps so many claims serve the turn (one or none), and after them so many: a claim round begins one, a lost step ends it, and at most two
 -- exchanges were tried under one that has ended
 pub record Paces (from to : ℕ) (steps : List Counted) : Type 0 where
   pub rounds : claim_rounds steps + from ≤ lost_steps steps + to

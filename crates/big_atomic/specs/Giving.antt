@@ -58,8 +58,8 @@ pub record IsOnce {shared : ObjectData} {reg : ℕ} {new : List ℕ} {done : Rep
   pub look_is : b.look ≡ look
   pub once : b.once ≡ true
 
--- what it did so far: it holds no node, and of its claims Back alone may stand beside Hold. One claim serves it. A scan was made only where no node was free, and where
--- it tries once it lost so many exchanges and made at most so many steps
+-- what it did so far: it holds no node, and of its claims Back alone may stand beside Hold; one serves its turn. A scan was made only where no
+-- node was free, and where it tries once it lost so many exchanges and made at most so many steps
 pub record Past {shared : ObjectData} {reg : ℕ} {new : List ℕ} {done : Reply} {call : Call} (b : Begun shared reg new done call) (lost most : ℕ) (now : SeatData) : Type 0 where
   pub steps : List Counted
   pub calling : Calling reg steps b.look b.before now
@@ -95,7 +95,7 @@ pub record HasDecided {shared : ObjectData} {reg : ℕ} {new : List ℕ} {done :
   pub there : register_at now.view (length now.view.seen) reg ≡ rec
   pub agrees : Agrees reg rec new done call
 
--- its exchange was lost, and no claim serves it any more: others changed the register since so much was seen, and its node is free again
+-- its exchange was lost, and no claim serves any more: others changed the register since so much was seen, and its node is free again
 pub record HasLostTurn {shared : ObjectData} {reg : ℕ} {new : List ℕ} {done : Reply} {call : Call} (b : Begun shared reg new done call) (seen : ℕ) (now : SeatData) : Type 0 where
   pub at : AtTurn b 1 (2 * WIDTH + 12 + 4 * b.before.view.plan.seats) now
   pub tried : 0 < exchanges at.past.steps
