@@ -14,6 +14,7 @@ use Rattle.step_rules.proofs.Line.Lines.{Tells, line_tells}
 use Rattle.step_rules.specs.Closing.{ClosedData, IsClosed, live_nodes}
 use Rattle.step_rules.specs.Line.{after_stand, line_of, log_after, stands_by}
 use Rattle.step_rules.specs.SeatData.{SeatData}
+use Rattle.step_rules.specs.Stock.{AreOfOne}
 use Rattle.step_rules.specs.declared.counts.Counts.{Counts}
 use Rattle.step_rules.specs.declared.plan.Plan.{Plan}
 use Rattle.step_rules.specs.declared.view.Stand.{Stand}
@@ -68,8 +69,9 @@ module _ (seat : SeatData) (closed : ClosedData) (leaves : ℕ → Bool) (own : 
     contents = refl;
     logged = refl;
     held = λ x there. refl;
-    stocks = λ x lt. subst (StocksFrom closed.plan closed.history 0 0) (sym (is.line.order x lt))
-        (stocks_from closed.plan closed.history 0 0 (stands_by x closed.stands) (λ i s at. omega (arith, called.stocks x lt i s at)));
+    stocks = λ x lt.
+        let stocks = is.line.stocks x lt (subst (AreOfOne x) (sym (is.line.order x lt)) (called.alone x lt)) in
+        stocks_from closed.plan closed.history 0 0 (stands_by x (line_in closed)) (λ i s at. omega (arith, stocks i s at));
     releases = λ x lt leave front last e. released (leaves x) (own x) (stands_by x closed.stands) (called.stands x lt) leave front last (sym (is.line.order x lt) ∙ e);
   }
 

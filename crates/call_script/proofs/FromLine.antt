@@ -210,7 +210,7 @@ module _ (p : Plan) (history : List Entry) (leaves : ℕ → Bool) where
       (λ e. let rest = goes line (after_stand object s) (log_after log object s) (course_after p course (made_of s)) replays.1 tells.3
       (beside_kept object log course s line beside tells.0 tells.1 tells.2) in
       subst (λ b. Goes course (cond b kept (s ∷ kept)) (after_stands object (s ∷ line)).contents) (sym e) (record {
-        follows = (answered object log course s line beside tells.0 tells.1 tells.2 replays.0, rest.follows);
+        follows = (answered object log course s line beside tells.0 tells.1 tells.2 replays.0.reply, rest.follows);
         contents_are = rest.contents_are;
         log_is = rest.log_is;
       }))

@@ -1,8 +1,6 @@
 -- The line of a closed object as a row of lines with their replies.
-use Rattle.std.specs.Prelude.{◌≡◌, ℕ, ◌+◌, ◌<◌, ◌&&◌, All, Bool, true, false, List, [], ◌∷◌, ◌++◌, length, map, take, if◌then◌else◌}
+use Rattle.std.specs.Prelude.{◌≡◌, ℕ, ◌<◌, ◌&&◌, All, Bool, true, false, List, [], ◌∷◌, ◌++◌, length, map, if◌then◌else◌}
 use Rattle.std.specs.List.{range_with_len}
-use mathlib.Core.Option.{some}
-use lib.ListN.{get_elem?}
 use Rattle.seat_history.specs.History.{state_at}
 use Rattle.seat_history.specs.Pairs.{ArePairsOf, IsPairInRange}
 use Rattle.seat_history.specs.declared.call.Call.TheVariants.{Release}
@@ -11,8 +9,7 @@ use Rattle.seat_history.specs.declared.reply.Reply.{Reply}
 use Rattle.step_rules.specs.Closing.{ClosedData, live_nodes}
 use Rattle.step_rules.specs.Lawful.{entry_of}
 use Rattle.step_rules.specs.Line.{line_of, stands_by}
-use Rattle.step_rules.specs.Stock.{costs, gains}
-use Rattle.step_rules.specs.declared.plan.Plan.{Plan}
+use Rattle.step_rules.specs.Stock.{AreOfOne}
 use Rattle.step_rules.specs.declared.view.Stand.{Stand}
 use Rattle.call_script.specs.Run.{Made, made_lines, own_lines}
 use Rattle.call_script.specs.declared.driven.Driven.{Driven}
@@ -37,21 +34,17 @@ abbrev pub AreOwn : Bool → List Stand → List Stand → Type 0
 AreOwn false own stands = stands ≡ own
 AreOwn true own stands = (last : Stand) × (last.call ≡ Release) × (stands ≡ own ++ last ∷ [])
 
--- each stand keeps the nodes that its seat, of one number, had: its share, less what the stands before it cost, and what they gave
-abbrev pub StocksAre : Plan → List Entry → List Stand → Type 0
-StocksAre p seen stands = (i : ℕ) (s : Stand) → get_elem? stands i ≡ some s → s.stock + costs p seen (take i stands) ≡ p.share + gains p seen (take i stands)
-
 -- the closed object's line as a row of lines, without the last release of each caller that leaves a record held
 abbrev pub row_of : (ℕ → Bool) → ClosedData → List Made
 row_of leaves closed = map made_of (without_last leaves (line_of closed.plan.seats closed.history closed.stands))
 
--- on the closed object each caller made just its lines, with these replies, and at the end released the record that they leave held; and each
--- stand keeps its caller's nodes
+-- on the closed object each caller made just its lines, with these replies and by a seat of its own, and at the end released the record that they
+-- leave held
 pub record HasCalled (closed : ClosedData) (leaves : ℕ → Bool) (own : ℕ → List Stand) (lines : List Entry) (replies : List Reply) : Type 0 where
   pub each_replied : length replies ≡ length lines
   pub stands : (x : ℕ) → x < closed.plan.seats → AreOwn (leaves x) (own x) (stands_by x closed.stands)
   pub made : (x : ℕ) → x < closed.plan.seats → map made_of (own x) ≡ own_lines x (made_lines lines replies)
-  pub stocks : (x : ℕ) → x < closed.plan.seats → StocksAre closed.plan closed.history (stands_by x closed.stands)
+  pub alone : (x : ℕ) → x < closed.plan.seats → AreOfOne x (stands_by x closed.stands)
 
 -- the registers, the pairs and the nodes are the closed object's
 pub record EndsAs (closed : ClosedData) (driven : Driven) : Type 0 where
