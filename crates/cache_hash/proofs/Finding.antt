@@ -1,5 +1,6 @@
 -- A find as far as it has come, and its end.
-use Rattle.std.proofs.Common.{◌≡◌, ◌≢◌, ◌∙◌, ℕ, ◌*◌, ◌-◌, ◌/◌, ◌<◌, ◌≤◌, List, [], ◌∷◌, ◌++◌, Option, Some, None, length, take, refl, sym, ap, subst, arith}
+use Rattle.std.proofs.Common.{◌≡◌, ◌≢◌, ◌∙◌, ℕ, ◌*◌, ◌-◌, ◌/◌, ◌<◌, ◌≤◌, List, [], ◌∷◌, ◌++◌, Option, Some, None, length, take, drop, refl, sym, ap, subst, arith}
+use Rattle.std.proofs.Math.ListN.{drop_of_length-le}
 use Rattle.std.specs.Option.{option_map_or}
 use Rattle.big_atomic.proofs.Answered.{MayEnd, answered_now, ended_back, goes_of, hold_stays, may_answer, ready_now, right_at}
 use Rattle.big_atomic.proofs.Balance.{nodes_stay}
@@ -14,7 +15,7 @@ use Rattle.cache_hash.proofs.Walking.{Lost, OnlyLooks, Way, cleared_part, come_w
 use Rattle.cache_hash.specs.Calls.{IsFound, find_reply, value_at as value_here}
 use Rattle.cache_hash.specs.Finding.{Finding, KnowsValue}
 use Rattle.chain_links.proofs.Passing.{back_claim, kept_back}
-use Rattle.chain_links.specs.Walking.{HasBack, HasCome, IsWalked}
+use Rattle.chain_links.specs.Walking.{HasBack, HasCome, IsWalked, MadeNoChange, NoneOf}
 use Rattle.chain_links.specs.declared.answers.Walk.TheVariants.{Found, End, Moved}
 use Rattle.hazard_claims.specs.Scanning.{ClearsWalk}
 use Rattle.seat_history.specs.Contents.{Contents}
@@ -90,6 +91,11 @@ finding_again cell word before mid now f paced s = finding_on cell s.steps befor
 
 pub has_back : (cell word : ℕ) (seat : SeatData) → HasClaim BACK cell word seat → HasBack cell seat.view
 has_back cell word seat c = record { node = word / 2; stands = c.stands; cell_is = c.cell }
+
+-- where a claim has just begun to stand, no change was made since
+pub claim_unchanged : {cell word : ℕ} {seat : SeatData} → HasClaim BACK cell word seat → MadeNoChange cell seat.view
+claim_unchanged {cell} {word} {seat} c = subst (λ (l : List Entry). NoneOf seat.view.plan cell seat.view.numbers l)
+    (sym (ap (λ n. drop n seat.view.seen) c.now_at ∙ drop_of_length-le seat.view.seen (omega arith))) tt
 
 -- Back's node is that of the word
 same_node : (cell word node : ℕ) (seat : SeatData) → HasClaim BACK cell word seat → On (claim_of BACK seat.view) node → word / 2 ≡ 2 * node / 2

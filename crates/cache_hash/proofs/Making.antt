@@ -330,6 +330,15 @@ module _ {shared : ObjectData} {key : KeyWords} {change : Change} {word : ℕ} {
       subst (λ (l : List Entry). GoesOn l final.view.seen) (ap (λ (z : SeatData). z.view.seen) installed.announces) (won_on (won_change won)) in
       goes_further mid.view.seen copied.view.seen final.view.seen later.0 h.prepared.goes.seen later.1
 
+  -- what was seen before the front was copied is no more than what the exchange found
+  late : length mid.view.seen ≤ place
+  late =
+      let w = won_change won in
+      let a = longer_seen mid.view.seen copied.view.seen h.prepared.goes.seen in
+      let b = ap (λ (z : SeatData). length z.view.seen) installed.announces in
+      let c = longer_seen installed.announced.view.seen w.won.mid.view.seen w.won.retried.goes.seen in
+      let d = longer_seen w.won.mid.view.seen w.won.won.wins.log (w.won.won.wins.rest, w.won.won.wins.seen) in omega arith
+
   plan_since : final.view.plan ≡ mid.view.plan
   plan_since = final_plan ∙ sym (ap (λ (z : View). z.plan) going.goes.only)
 
@@ -339,13 +348,13 @@ module _ {shared : ObjectData} {key : KeyWords} {change : Change} {word : ℕ} {
   tried_by : 0 < exchanges (all_steps (won_change won))
   tried_by = change_tried won
 
-  abbrev Scanned : ℕ → List Counted → Type 0
-  Scanned look steps = (scan_loads steps ≡ 0) ⊎ (WantsNodes asked look before final.view × (scan_loads steps ≡ 4 * before.view.plan.seats)
+  abbrev Scanned : ℕ → ℕ → List Counted → Type 0
+  Scanned look until steps = (scan_loads steps ≡ 0) ⊎ (WantsNodes asked look until before final.view × (scan_loads steps ≡ 4 * before.view.plan.seats)
       × ((is_full (plain_reply change due.there) ≡ true) ⊎ (0 < exchanges steps + lost_steps steps)))
 
-  scans_for : (b : Bool) → Scans b asked going.steps going.look before mid → Scanned going.look (all_steps (won_change won))
+  scans_for : (b : Bool) → Scans b asked going.steps going.look before mid → Scanned going.look place (all_steps (won_change won))
   scans_for false s = inl (scanned_by ∙ s.none)
-  scans_for true s = inr (wants_more final.view on plan_since s.want, scanned_by ∙ s.all, inr (omega (arith, tried_by)))
+  scans_for true s = inr (wants_more final.view late on plan_since s.want, scanned_by ∙ s.all, inr (omega (arith, tried_by)))
 
   pub made : IsReady shared final × HasEnded key change (Plain due.there) before final
   made = (
@@ -355,7 +364,8 @@ module _ {shared : ObjectData} {key : KeyWords} {change : Change} {word : ℕ} {
         answered = answer.answered;
         changes = ap (λ (s : Stand). s.changes) answer.stand_is ∙ sym h.may.decides.1;
         hold = won_stays (won_change won);
-        scans = subst (λ (z : ℕ × List Counted). Scanned z.0 z.1) (λ k. (sym answer.look_is k, sym answer.steps_are k)) (scans_for scanned going.scans);
+        scans = subst (λ (z : ℕ × ℕ × List Counted). Scanned z.0 z.1 z.2) (λ k. (sym answer.look_is k, (sym answer.stand_is k).place, sym answer.steps_are k))
+            (scans_for scanned going.scans);
         kept = λ none. absurd (omega (arith, tried_by, ap exchanges answer.steps_are));
         full = λ count free e. absurd (never_full change due.there count free e);
         short = λ count free e. absurd (never_full change due.there count free e);

@@ -49,10 +49,10 @@ needs_more {call} {place} {need} {v} w within on plan n =
       needs = subst (λ (rs : List (List ℕ)). Needs rs call need) (λ i. records_at (sym plan i) (sym front i) (cell_of (sym plan i) call)) n.needs;
     }
 
-pub wants_more : {call : Call} {look : ℕ} {before : SeatData} {v : View} (w : View) → GoesOn v.seen w.seen → w.plan ≡ v.plan → WantsNodes call look before v → WantsNodes call look before w
-wants_more {v = v} w on plan n =
+pub wants_more : {call : Call} {look last : ℕ} {before : SeatData} {v : View} (w : View) → length v.seen ≤ last → GoesOn v.seen w.seen → w.plan ≡ v.plan
+    → WantsNodes call look (length v.seen) before v → WantsNodes call look last before w
+wants_more {v = v} w until on plan n =
     let within = n.within in
-    let longer = longer_seen v.seen w.seen on in
     record { place = n.place; late = n.late; within = omega arith; need = n.need; needs = needs_more w n.within on plan n.needs; few = n.few }
 
 -- a scan stays among the steps
@@ -85,7 +85,7 @@ pub scans_on : {from to : ℕ} {key : KeyWords} {change : Change} {cell : ℕ} {
 scans_on {b = b} false call steps look before sound o s =
     let none = o.none_scanned in
     let none_before = s.none in record { none = omega (arith, scan_loads-append steps b); retired = o.retired ∙ s.retired }
-scans_on {b = b} {now = now} true call steps look before sound o s =
+scans_on {b = b} {mid = mid} {now = now} true call steps look before sound o s =
     let none = o.none_scanned in
     let all = s.all in
     let few = s.few in record {
@@ -93,7 +93,7 @@ scans_on {b = b} {now = now} true call steps look before sound o s =
       all = omega (arith, scan_loads-append steps b);
       retired = o.retired ∙ s.retired;
       few = omega (arith, ap (length {A = ℕ}) o.retired);
-      want = wants_more now.view o.goes.seen (ap (λ (z : View). z.plan) o.goes.only) s.want;
+      want = wants_more now.view (longer_seen mid.view.seen now.view.seen o.goes.seen) o.goes.seen (ap (λ (z : View). z.plan) o.goes.only) s.want;
     }
 
 module _ {shared : ObjectData} {key : KeyWords} {change : Change} {cell : ℕ} {scanned : Bool} {before mid : SeatData} (i : Changing shared key change cell scanned before mid) where
@@ -168,7 +168,7 @@ module _ {shared : ObjectData} {key : KeyWords} {change : Change} {cell : ℕ} {
           all = omega (arith, scan_loads-append i.steps (s.clear ++ s.loads), scan_all s law last);
           retired = s.retired ∙ ap (filter (λ n. names n s.loads)) i.scans.retired;
           few = omega arith;
-          want = wants_more now.view g.seen (ap (λ (z : View). z.plan) g.only) (record {
+          want = wants_more now.view (longer_seen mid.view.seen now.view.seen g.seen) g.seen (ap (λ (z : View). z.plan) g.only) (record {
             place = length mid.view.seen;
             late = i.looked.upto;
             within = omega arith;

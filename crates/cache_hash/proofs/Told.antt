@@ -215,17 +215,17 @@ module _ {shared : ObjectData} {key : KeyWords} {change : Change} {told : Told} 
     all_tried = omega (arith, exchanges-append i.steps clear)
 
     -- the scan
-    abbrev Scanned : ℕ → List Counted → Type 0
-    Scanned look steps = (scan_loads steps ≡ 0) ⊎ (WantsNodes call look before final.view × (scan_loads steps ≡ 4 * before.view.plan.seats)
+    abbrev Scanned : ℕ → ℕ → List Counted → Type 0
+    Scanned look place steps = (scan_loads steps ≡ 0) ⊎ (WantsNodes call look place before final.view × (scan_loads steps ≡ 4 * before.view.plan.seats)
         × ((is_full reply ≡ true) ⊎ (0 < exchanges steps + lost_steps steps)))
 
     fits : k.scanned ≡ true → (is_full reply ≡ true) ⊎ Tries call i.steps
     fits = knows_fits told key change k.scanned i.steps now k.knows
 
-    scans_for : (scanned : Bool) → Scans scanned call i.steps i.look before now → k.scanned ≡ scanned → Scanned i.look (i.steps ++ clear)
+    scans_for : (scanned : Bool) → Scans scanned call i.steps i.look before now → k.scanned ≡ scanned → Scanned i.look (length seen) (i.steps ++ clear)
     scans_for false s e = inl (all_scanned ∙ s.none)
     scans_for true s e = inr (
-      wants_more final.view on final_plan s.want,
+      wants_more final.view (omega arith) on final_plan s.want,
       all_scanned ∙ s.all,
       ⊎_elim (λ full. inl full) (λ tries. inr (tries_then i.steps clear tries).tried) (fits e),
     )
@@ -285,7 +285,7 @@ module _ {shared : ObjectData} {key : KeyWords} {change : Change} {told : Told} 
           answered = has.answered;
           changes = ap (λ (s : Stand). s.changes) has.stand_is ∙ no_change told key change k.scanned i.steps now k.knows;
           hold = stays;
-          scans = subst (λ (z : ℕ × List Counted). Scanned z.0 z.1) (λ j. (sym has.look_is j, sym has.steps_are j))
+          scans = subst (λ (z : ℕ × ℕ × List Counted). Scanned z.0 z.1 z.2) (λ j. (sym has.look_is j, (sym has.stand_is j).place, sym has.steps_are j))
               (scans_for k.scanned i.scans refl);
           kept = subst (λ (l : List Counted). exchanges l ≡ 0 → scan_loads l ≡ 0 → KeepsNodes before final) (sym has.steps_are) (kept_for k.scanned i.scans refl);
           full = λ count free e.

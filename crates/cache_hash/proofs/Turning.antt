@@ -1,5 +1,6 @@
 -- The turns of a change, from one claim of its bucket's node to the next.
-use Rattle.std.proofs.Common.{◌≡◌, ◌∙◌, ℕ, ◌+◌, ◌*◌, ◌-◌, ◌/◌, ◌^◌, ◌<◌, ◌≤◌, Bool, true, false, List, Option, None, Some, length, take, refl, sym, ap, subst, arith, ◌⊎◌, inl, ⊎_elim, is_some}
+use Rattle.std.proofs.Common.{◌≡◌, ◌∙◌, ℕ, ◌+◌, ◌*◌, ◌-◌, ◌/◌, ◌^◌, ◌<◌, ◌≤◌, Bool, true, false, List, Option, None, Some, length, take, drop, refl, sym, ap, subst, arith, ◌⊎◌, inl, ⊎_elim, is_some}
+use Rattle.chain_links.proofs.Another.{none_of_on}
 use Rattle.std.proofs.Math.Nat.{le-max_right}
 use Rattle.std.proofs.lemmas.Bool.{false≢true}
 use Rattle.std.proofs.lemmas.List.{take_all}
@@ -23,7 +24,7 @@ use Rattle.cache_hash.specs.declared.asked.Told.TheVariants.{Full, Plain}
 use Rattle.cache_hash.specs.declared.turns.Turn.{Turn}
 use Rattle.cache_hash.specs.declared.turns.Turn.TheVariants.{Ends, Moved as TurnMoved}
 use Rattle.chain_links.proofs.Passing.{back_claim}
-use Rattle.chain_links.specs.Walking.{HasBack, IsWalked}
+use Rattle.chain_links.specs.Walking.{HasBack, IsWalked, NoneOf, since_claim}
 use Rattle.chain_links.specs.declared.answers.Walk.TheVariants.{Found, End, Moved}
 use Rattle.seat_history.specs.Change.{is_change}
 use Rattle.seat_history.specs.History.{state_at}
@@ -138,6 +139,7 @@ module _ {shared : ObjectData} {key : KeyWords} {change : Change} {cell word : �
       records = o.records;
       value = o.chain;
       none = o.way.noted ∙ t.claim.none refl;
+      unchanged = none_of_on now.view.plan cell now.view.numbers (since_claim now.view) o.way.calm;
       law = law;
     };
     decides = decides;
@@ -272,6 +274,8 @@ room_made {shared} {key} {change} {cell} {word} {due} {scanned} {made} {before} 
         records = ap (λ (z : View). records_at z.plan z.seen cell) view ∙ (c.records ∙ sym records);
         value = ap (λ (rs : List (List ℕ)). value_in rs (key_number key)) records ∙ c.value;
         none = ap (λ (z : SeatData). z.noted) s.same ∙ c.none;
+        unchanged = subst (λ (z : Plan × List ℕ × Claim × List Entry). NoneOf z.0 cell z.1 (drop z.2.at z.3))
+            (λ i. ((sym view i).plan, (sym view i).numbers, sym back i, (sym view i).seen)) c.unchanged;
         law = law;
       };
       decides = subst (λ (rs : List (List ℕ)). Decides key change due.there rs (Changes due)) (sym records) p.decides;

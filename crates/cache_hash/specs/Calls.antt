@@ -48,11 +48,11 @@ pub record NeedsNodes (call : Call) (place need : ℕ) (v : View) : Type 0 where
   pub changes : is_change (state_at v.seen place) call ≡ true
   pub needs : Needs (found_at v.plan v.seen place call) call need
 
--- at a place of the call's, from its first look on, fewer nodes were free than it needed
-pub record WantsNodes (call : Call) (look : ℕ) (before : SeatData) (v : View) : Type 0 where
+-- at a place from the call's first look on up to the last one fewer nodes were free than it needed
+pub record WantsNodes (call : Call) (look last : ℕ) (before : SeatData) (v : View) : Type 0 where
   pub place : ℕ
   pub late : look ≤ place
-  pub within : place ≤ length v.seen
+  pub within : place ≤ last
   pub need : ℕ
   pub needs : NeedsNodes call place need v
   pub few : length before.free < need
@@ -67,8 +67,10 @@ pub record IsKeyChange (call : Call) (reply : Reply) (changed : Bool) (before af
   pub answered : Answered (cell_of before.view.plan call) call reply before after
   pub changes : answered.stand.changes ≡ changed
   pub hold : HoldStays before after
-  -- a scan was made at most once, and only for want of nodes: then an exchange was tried, a step was lost, or the reply is Full
-  pub scans : (scan_loads answered.steps ≡ 0) ⊎ (WantsNodes call answered.stood.look before after.view × (scan_loads answered.steps ≡ 4 * before.view.plan.seats)
+  -- a scan was made at most once, and only for want of nodes at a place up to the stand's: then an exchange was tried, a step was lost, or the
+  -- reply is Full
+  pub scans : (scan_loads answered.steps ≡ 0)
+      ⊎ (WantsNodes call answered.stood.look answered.stand.place before after.view × (scan_loads answered.steps ≡ 4 * before.view.plan.seats)
       × ((is_full reply ≡ true) ⊎ (0 < exchanges answered.steps + lost_steps answered.steps)))
   -- without an exchange and a scan no node changed hands
   pub kept : exchanges answered.steps ≡ 0 → scan_loads answered.steps ≡ 0 → KeepsNodes before after

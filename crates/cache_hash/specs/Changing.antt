@@ -1,6 +1,7 @@
 -- A change of a key's pair as far as it has come.
 use Rattle.std.specs.Prelude.{◌≡◌, ◌⊎◌, ℕ, ◌+◌, ◌*◌, ◌/◌, ◌<◌, ◌≤◌, Bool, true, false, List, [], Option, None, length, filter}
 use Rattle.big_atomic.specs.Calling.{Goes, HasClaim, IsLooked, Paces}
+use Rattle.chain_links.specs.Walking.{MadeNoChange}
 use Rattle.big_atomic.specs.Installing.{HasNear}
 use Rattle.big_atomic.specs.Ready.{IsReady}
 use Rattle.big_atomic.specs.Turns.{exchanges, lost_steps, scan_loads}
@@ -47,7 +48,7 @@ pub record HasMadeScan (call : Call) (steps : List Counted) (look : ℕ) (before
   pub all : scan_loads steps ≡ 4 * before.view.plan.seats
   pub retired : now.view.retired ≡ filter (λ n. names n scan.loads) before.view.retired
   pub few : length now.view.retired ≤ 4 * before.view.plan.seats
-  pub want : WantsNodes call look before now.view
+  pub want : WantsNodes call look (length now.view.seen) before now.view
 
 abbrev pub Scans : Bool → Call → List Counted → ℕ → SeatData → SeatData → Type 0
 Scans false call steps look before now = HasNotScanned steps before now
@@ -104,6 +105,7 @@ pub record KnowsChain (key : KeyWords) (cell word : ℕ) (found : Option (List �
   pub records : records_at seat.view.plan seat.view.seen cell ≡ claimed_records seat.view
   pub value : value_in (claimed_records seat.view) (key_number key) ≡ found
   pub none : seat.noted ≡ []
+  pub unchanged : MadeNoChange cell seat.view
   pub law : IsSeat seat
 
 -- so this is decided

@@ -6,6 +6,9 @@ use Rattle.cache_hash.proofs.changes.install_change.Goals as goal
 pub copy_front-requires-clause-back : goal.copy_front-requires-clause-back
 copy_front-requires-clause-back c = make_back c.requires.past.1
 
+pub copy_front-requires-clause-unchanged : goal.copy_front-requires-clause-unchanged
+copy_front-requires-clause-unchanged c = c.requires.past.1.chain.unchanged
+
 pub copy_front-requires-clause-place : goal.copy_front-requires-clause-place
 copy_front-requires-clause-place c = make_place c.requires.past.1
 

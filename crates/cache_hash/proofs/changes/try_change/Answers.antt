@@ -1,5 +1,9 @@
 use Rattle.cache_hash.proofs.Turning.{end_seen, ends_from, found_seen, place_low, turn_end, turn_found, turn_lost}
+use Rattle.cache_hash.proofs.Finding.{claim_unchanged}
 use Rattle.cache_hash.proofs.changes.try_change.Goals as goal
+
+pub walk-requires-clause-unchanged : goal.walk-requires-clause-unchanged
+walk-requires-clause-unchanged c = claim_unchanged c.requires.past.1.claim
 
 pub decide_there-decision-requires : goal.decide_there-decision-requires
 decide_there-decision-requires c = record { few = place_low c.requires.past.1 c.in-Found.at c.in-Found.val c.walk.new.seat c.in-Found.ensures.walked }

@@ -1,5 +1,5 @@
 use Rattle.std.proofs.Common.{subst}
-use Rattle.cache_hash.proofs.Finding.{back_there, begins, claimed_again, claimed_first, fewer, finds_none, finds_value, inside}
+use Rattle.cache_hash.proofs.Finding.{back_there, begins, claimed_again, claimed_first, fewer, finds_none, finds_value, inside, claim_unchanged}
 use Rattle.cache_hash.proofs.Finding.{knows, loses, lost_finding, of_finding}
 use Rattle.step_rules.specs.Layout.{IsPlan}
 use Rattle.cache_hash.proofs.finds.find.Goals as goal
@@ -16,6 +16,9 @@ walk-requires-clause-ours c = of_finding c.requires.ready c.turns.invariant.find
 
 pub walk-requires-clause-back : goal.walk-requires-clause-back
 walk-requires-clause-back c = back_there c.turns.invariant
+
+pub walk-requires-clause-unchanged : goal.walk-requires-clause-unchanged
+walk-requires-clause-unchanged c = claim_unchanged c.turns.invariant.claim
 
 pub answer_find-requires : goal.answer_find-requires
 answer_find-requires c = record { past = (c.args.seat.now, knows c.turns.invariant (finds_value c.turns.invariant c.in-Found.at c.in-Found.val c.walk.new.seat c.in-Found.ensures.walked)) }
