@@ -134,13 +134,13 @@ along p history object log (s ∷ line) done lists replays tells added fold = �
     let rest = found.1 in
     let one = first p s line tells.0 lists added pair rest found.2 adding in
     let later = along p history (after_stand object s) (log_after log object s) line (done ++ pair ∷ []) (set_at lists s.by rest) replays.1 tells.3
-    (taken p s line tells.0 lists added pair rest found.2 adding) (adding_after p done object log s pair one.1.0 one.0.0 replays.0 adding fold) in
+    (taken p s line tells.0 lists added pair rest found.2 adding) (adding_after p done object log s pair one.1.0 one.0.0 replays.0.reply adding fold) in
     record {
       more = pair ∷ later.more;
       same = IsPermutation-trans _ _ _ (IsPermutation-cons pair _ _ later.same) (first_taken p.seats lists s.by pair rest tells.0 found.2);
       fold = subst (λ (l : Flows). IsFold l (flow_in (after_stands object (s ∷ line)).contents.values)) (append_assoc done (pair ∷ []) later.more) later.fold;
     })
     (λ not_adding. let later = along p history (after_stand object s) (log_after log object s) line done lists replays.1 tells.3 (passed p s line tells.0 lists added not_adding)
-    (still_after p done object log s replays.0 (own p s line tells.0 lists added).1.0 not_adding fold) in
+    (still_after p done object log s replays.0.reply (own p s line tells.0 lists added).1.0 not_adding fold) in
     record { more = later.more; same = later.same; fold = later.fold })
     (cases_Bool (is_adding s))

@@ -25,7 +25,6 @@ use Rattle.seat_history.specs.declared.reply.Reply.{Reply}
 use Rattle.step_rules.specs.Lawful.{is_full}
 use Rattle.step_rules.specs.SeatData.{ObjectData, SeatData}
 use Rattle.step_rules.specs.declared.view.Stand.{Stand}
-use Rattle.tally_core.proofs.StandStocks.{no_stocks, stocks_on}
 use Rattle.tally_core.specs.Adding.{Adds, AddsBy, AreInRange, AreOfValue, HasValues, IsInRange, IsTallyCall, Merges, adding_in, is_adding, is_adding_reply, key_words}
 use Rattle.tally_core.specs.Attempts.{EndsFull, HasWorked, IsAdding, IsTrying, last_from, last_place}
 
@@ -68,7 +67,6 @@ module _ {k : ℕ} {asked : Call} {told : Reply} {before after : SeatData} (a : 
         (zip_append Adds added more (adding_in before.view.stands) (adding_in (a.stand ∷ [])) was.adds zipped);
     in_range = all_append IsInRange added more was.in_range range;
     calls = subst (AllByRecursion IsTallyCall) (sym a.stood.stands) (all_append IsTallyCall before.view.stands (a.stand ∷ []) was.calls (tally, tt));
-    stocks = stocks_on before after a.stand was.ready was.one a.stood.stands a.stood.stock a.stood.seen was.stocks;
     left = omega (arith, was.left, fewer, length-append added more);
   }
 
@@ -192,7 +190,6 @@ unused_adding {shared} {seat} unused some =
       adds = subst (λ l. AllZip Adds [] (adding_in l)) (sym unused.stands) tt;
       in_range = tt;
       calls = subst (AllByRecursion IsTallyCall) (sym unused.stands) tt;
-      stocks = no_stocks shared.plan v.stands v.seen unused.stands;
       left = omega (arith, unused.changes);
     }
 
@@ -203,5 +200,4 @@ has_worked {shared} pairs full count {seat} within is all last = record {
   done = record { ours = is.ready.ours; law = is.ready.law; quiet = ready_quiet shared seat is.ready is.none_held };
   one = is.one;
   added = record { count = count; within = within; added = is.adds; in_range = is.in_range; calls = is.calls; all = all; last = last };
-  stocks = is.stocks;
 }

@@ -21,7 +21,6 @@ use Rattle.step_rules.specs.Views.{number}
 use Rattle.step_rules.specs.declared.plan.Plan.{Plan}
 use Rattle.step_rules.specs.declared.view.Stand.{Stand}
 use Rattle.tally_core.proofs.Coming.{few_by}
-use Rattle.tally_core.proofs.StandStocks.{no_stocks}
 use Rattle.tally_core.specs.Workers.{Caller, HasCome, HasOpened, HasRoom, HasSeats, HaveCome, IsFor, entries_of, lines_by, removes_in, replies_of, seats_of}
 
 is_there : (p : Plan) (call : Call) → p.registers ≡ 16 → 0 < p.buckets → NamesBelow 16 call → IsThere p call
@@ -77,7 +76,6 @@ begun {lines} {shared} {one} for u room =
       entries = ap (λ (l : List Stand). entries_of l ++ lines_by x lines) u.stands;
       replies_are = ap replies_of u.stands ∙ sym room.none;
       room = room.room;
-      stocks = no_stocks shared.plan v.stands v.seen u.stands;
       changes = omega (arith, few_by x lines, for.changes, u.changes);
       removes = omega (arith, fewer_removes x lines, for.removes, removed, none, share);
       may = subst (λ b. MayTurn b (calls_by x lines)) (sym u.none_held) (may_turn shared.plan.seats blank_object lines for.may x);

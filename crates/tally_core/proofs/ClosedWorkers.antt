@@ -1,16 +1,14 @@
 -- What the closed object has of each of its workers.
 use Rattle.std.proofs.Common.{◌≡◌, ◌∙◌, ℕ, ◌<◌, All, List, [], ◌∷◌, get_or, length, sym, ap, subst, arith}
-use Rattle.std.proofs.lemmas.List.{get_or-map, length-map}
+use Rattle.big_atomic.proofs.SeatNumbers.{single}
 use Rattle.big_atomic.specs.Seats.{all_numbers}
-use Rattle.call_script.specs.Row.{StocksAre}
+use Rattle.step_rules.proofs.Line.Kept.{seat_of_one}
 use Rattle.step_rules.specs.Closing.{ClosedData}
-use Rattle.step_rules.specs.History.{GoesOn}
 use Rattle.step_rules.specs.Line.{stands_by}
-use Rattle.step_rules.specs.SeatData.{ObjectData, SeatData}
+use Rattle.step_rules.specs.SeatData.{ObjectData}
+use Rattle.step_rules.specs.Stock.{AreOfOne}
 use Rattle.step_rules.specs.Views.{count_up, number}
-use Rattle.step_rules.specs.declared.plan.Plan.{Plan}
 use Rattle.tally_core.proofs.SeatStands.{IsOne, items_numbered, items_stands}
-use Rattle.tally_core.proofs.StandStocks.{stocks_more}
 use Rattle.tally_core.specs.Workers.{HasClosed, seats_of}
 use Rattle.tally_core.specs.declared.worker.Worker.{Worker}
 
@@ -41,13 +39,9 @@ module _ {T : Type 0} {P : ℕ → Worker T → Type 0} {workers : List (Worker 
     pub worker_stands : stands_by x closed.stands ≡ (get_or workers x d).seat.view.stands
     worker_stands = ap (stands_by x) closes.stands ∙ items_stands (λ (one : Worker T). one.seat) workers k are.whole are.ones x d l
 
-    -- and keep what nodes it had
-    pub worker_stocks : StocksAre shared.plan (get_or workers x d).seat.view.seen (get_or workers x d).seat.view.stands
-        → StocksAre closed.plan closed.history (stands_by x closed.stands)
-    worker_stocks stocks =
-        let seat = (get_or workers x d).seat in
-        let goes : GoesOn seat.view.seen closed.history = subst (λ (s : SeatData). GoesOn s.view.seen closed.history) (get_or-map (λ (one : Worker T). one.seat) workers x d d.seat l)
-        (closes.seen x d.seat (omega (arith, l, length-map workers (λ (one : Worker T). one.seat)))) in
-        subst (StocksAre closed.plan closed.history) (sym worker_stands)
-        (subst (λ (p : Plan). StocksAre p closed.history seat.view.stands) (sym closes.plan_is)
-        (stocks_more shared.plan seat.view.seen closed.history seat.view.stands (λ i s at. ((are.ones x d l).law.sound.lawful.right i s at).place) goes stocks))
+    -- and of no other
+    pub worker_alone : AreOfOne x (stands_by x closed.stands)
+    worker_alone =
+        let one = are.ones x d l in
+        let v = (get_or workers x d).seat.view in
+        subst (AreOfOne x) (sym worker_stands) (seat_of_one x one.law.sound.lawful (single v.numbers one.one ∙ ap (λ n. n ∷ []) (row.1 x d l)))

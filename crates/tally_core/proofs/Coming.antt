@@ -10,7 +10,6 @@ use Rattle.big_atomic.proofs.Sharing.{ready_quiet}
 use Rattle.big_atomic.specs.Calls.{IsReleased}
 use Rattle.big_atomic.specs.Ready.{IsReady}
 use Rattle.call_script.specs.Holding.{MayTurn, holds_from}
-use Rattle.call_script.specs.Row.{StocksAre}
 use Rattle.seat_history.specs.declared.call.Call.TheVariants.{Release}
 use Rattle.seat_history.specs.declared.entry.Entry.{Entry}
 use Rattle.seat_history.specs.declared.reply.Reply.{Reply}
@@ -20,7 +19,6 @@ use Rattle.step_rules.specs.Records.{removes_of}
 use Rattle.step_rules.specs.SeatData.{ObjectData, SeatData, holds_record}
 use Rattle.step_rules.specs.Views.{number}
 use Rattle.step_rules.specs.declared.view.Stand.{Stand}
-use Rattle.tally_core.proofs.StandStocks.{stocks_on}
 use Rattle.tally_core.specs.Calls.{CanMake, HasMade}
 use Rattle.tally_core.specs.Driving.{leaves}
 use Rattle.tally_core.specs.Workers.{Caller, HasCome, HasRun, entries_of, lines_by, removes_in, replies_of}
@@ -46,11 +44,6 @@ few_by x lines =
     let own : Entry → Bool = λ line. eqb line.caller x in
     omega (arith, length-filter own lines, count_by-le-length own lines)
 
--- one stand more keeps what its seat had
-made_stocks : {shared : ObjectData} {x : ℕ} {before after : SeatData} {call : _} {reply : Reply} → IsReady shared before → before.view.numbers ≡ x ∷ [] → HasMade shared call reply before after
-    → StocksAre shared.plan before.view.seen before.view.stands → StocksAre shared.plan after.view.seen after.view.stands
-made_stocks {before = before} {after = after} ready numbers made stocks = stocks_on before after made.stand ready (ap length numbers) made.more made.stock_is made.seen stocks
-
 -- there are no more replies than lines
 pub few_told : {shared : ObjectData} {lines rest : List Entry} {x : ℕ} {caller : Caller} → HasCome shared lines x rest caller → length caller.told.items ≤ length lines
 few_told {lines = lines} {rest = rest} {x = x} {caller = caller} c =
@@ -70,7 +63,6 @@ come_past {shared} {lines} {rest} {x} {line} {caller} c other =
       entries = ap (λ l. entries_of v.stands ++ l) (sym e) ∙ c.entries;
       replies_are = c.replies_are;
       room = c.room;
-      stocks = c.stocks;
       changes = subst (λ (l : List Entry). length l ≤ v.changes) e c.changes;
       removes = subst (λ (l : List Entry). removes_in l ≤ v.removes) e c.removes;
       may = subst (λ (l : List Entry). MayTurn (holds_record v) (map (λ (z : Entry). z.call) l)) e c.may;
@@ -127,7 +119,6 @@ module _ {shared : ObjectData} {lines rest : List Entry} {x : ℕ} {line : Entry
       entries = entries_on;
       replies_are = told_on;
       room = subst (λ n. length (lines_by x lines) ≤ n) (sym room) c.room;
-      stocks = made_stocks c.ready c.numbers made c.stocks;
       changes = omega (arith, many, made.changes);
       removes = omega (arith, enough, made.removes);
       may = subst (λ b. MayTurn b (map (λ (z : Entry). z.call) (lines_by x rest))) (sym made.holds) turn.1;
@@ -166,7 +157,6 @@ ended {shared} {lines} {x} {caller} c none = record {
     replies_are = c.replies_are;
     ending = ap (λ b. cond b (record { line = record { caller = x; call = Release }; reply = Done } ∷ []) []) (sym none ∙ c.left);
   };
-  stocks = c.stocks;
 }
 
 -- and where one is: it is released
@@ -185,5 +175,4 @@ ended_held {shared} {lines} {x} {old} {new} c held made told =
         ending = (λ i. record { line = (made.entry ∙ (λ j. record { caller = who j; call = Release })) i; reply = made.reply_is i } ∷ [])
             ∙ ap (λ b. cond b (record { line = record { caller = x; call = Release }; reply = Done } ∷ []) []) (sym held ∙ c.left);
       };
-      stocks = made_stocks c.ready c.numbers made c.stocks;
     }

@@ -16,7 +16,6 @@ pub mod Many
 pub mod Merged
 pub mod SeatStands
 pub mod Slices
-pub mod StandStocks
 pub mod Summed
 pub mod Whole
 pub mod WorkersDone

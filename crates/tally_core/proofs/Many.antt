@@ -12,7 +12,6 @@ use Rattle.std.proofs.lemmas.List.{length-append, take-append-drop, take_all}
 use Rattle.std.proofs.lemmas.Map.Steps.{length-le_from_keys}
 use mathlib.Core.Option.{some, some-ne-none}
 use lib.ListN.{get_elem?}
-use Rattle.call_script.specs.Row.{StocksAre}
 use Rattle.flow_fold.proofs.Folds.{no_total, values_at-append}
 use Rattle.flow_fold.proofs.SameKey.{key_cmp_total}
 use Rattle.flow_fold.proofs.SomeFold.{some_fold}
@@ -27,13 +26,14 @@ use Rattle.seat_history.specs.Object.{blank_object}
 use Rattle.seat_history.specs.declared.entry.Entry.{Entry}
 use Rattle.seat_history.specs.declared.reply.Reply.TheVariants.{Full}
 use Rattle.seat_history.specs.declared.reply.Reply.{Reply}
+use Rattle.step_rules.proofs.Line.Kept.{stocks_one}
 use Rattle.step_rules.proofs.Numbers.Places.{at_there}
 use Rattle.step_rules.specs.Closing.{ClosedData}
 use Rattle.step_rules.specs.History.{cell_of}
 use Rattle.step_rules.specs.Lawful.{IsReply, held_by, is_full}
 use Rattle.step_rules.specs.Line.{stands_by}
 use Rattle.step_rules.specs.Records.{first_records, need_in, records_at}
-use Rattle.step_rules.specs.Stock.{costs, gains, stand_cost, stand_gain}
+use Rattle.step_rules.specs.Stock.{StocksAre, costs, gains, stand_cost, stand_gain}
 use Rattle.step_rules.specs.declared.layout.TheConstants.{CLAIMS}
 use Rattle.step_rules.specs.declared.plan.Plan.{Plan}
 use Rattle.step_rules.specs.declared.view.Stand.{Stand}
@@ -180,7 +180,8 @@ module _ (pairs : Flows) (workers flows : ℕ) (full : ℕ → Bool) (closed : C
   module _ (s : Stand) (before : List Stand) (own : stands_by w closed.stands ≡ before ++ s ∷ []) (is_full_reply : is_full s.reply ≡ true) where
     stock_left : s.stock + costs closed.plan closed.history before ≡ closed.plan.share + gains closed.plan closed.history before
     stock_left =
-        let stocks : StocksAre closed.plan closed.history (before ++ s ∷ []) = subst (StocksAre closed.plan closed.history) own (tallied.stocks w below) in
+        let kept = stocks_one closed.plan closed.history w [] closed.stands tallied.closed_is.1.lawful.kept (tallied.alone w below) in
+        let stocks : StocksAre closed.plan closed.history (before ++ s ∷ []) = subst (StocksAre closed.plan closed.history) own kept in
         subst (λ (l : List Stand). s.stock + costs closed.plan closed.history l ≡ closed.plan.share + gains closed.plan closed.history l) (take-append_seam before (s ∷ []))
         (stocks (length before) s (last_there before s))
 

@@ -8,7 +8,7 @@ use Rattle.std.proofs.lemmas.List.{get_or-map, length-map}
 use mathlib.Core.List.{map-append}
 use Rattle.big_atomic.specs.Seats.{all_numbers}
 use Rattle.call_script.proofs.ClosedRun.{closed_run}
-use Rattle.call_script.specs.Row.{AreOwn, EndsAs, HasCalled, StocksAre, made_of}
+use Rattle.call_script.specs.Row.{AreOwn, EndsAs, HasCalled, made_of}
 use Rattle.call_script.specs.Run.{Made, RunsIn, made_lines, own_lines}
 use Rattle.call_script.specs.Script.{MayRun}
 use Rattle.call_script.specs.declared.driven.Driven.{Driven}
@@ -21,10 +21,11 @@ use Rattle.step_rules.specs.Closing.{ClosedData}
 use Rattle.step_rules.specs.Lawful.{entry_of}
 use Rattle.step_rules.specs.Line.{stands_by}
 use Rattle.step_rules.specs.SeatData.{ObjectData}
+use Rattle.step_rules.specs.Stock.{AreOfOne}
 use Rattle.step_rules.specs.Views.{count_up}
 use Rattle.step_rules.specs.declared.plan.Plan.{Plan}
 use Rattle.step_rules.specs.declared.view.Stand.{Stand}
-use Rattle.tally_core.proofs.ClosedWorkers.{AreInRow, some_of, worker_at, worker_stands, worker_stocks, workers_long}
+use Rattle.tally_core.proofs.ClosedWorkers.{AreInRow, some_of, worker_at, worker_alone, worker_stands, workers_long}
 use Rattle.tally_core.proofs.Coming.{lines_past}
 use Rattle.tally_core.specs.Driving.{HasDriven, last_release, leaves}
 use Rattle.tally_core.specs.Workers.{Caller, HasClosed, HasMerged, HasRun, HaveRun, entries_of, lines_by, replies_at, replies_of, seats_of}
@@ -53,7 +54,7 @@ record IsCaller (lines : List Entry) (replies : List Reply) (closed : ClosedData
   made : map made_of own ≡ own_lines x (made_lines lines replies)
   ending : map made_of last ≡ last_release lines x
   long : length own ≡ length (lines_by x lines)
-  stocks : StocksAre closed.plan closed.history (stands_by x closed.stands)
+  alone : AreOfOne x (stands_by x closed.stands)
 
 lines_beyond : (callers : ℕ) (object : Object) (lines : List Entry) (x : ℕ) → MayRun callers object lines → (x < callers → ⊥) → lines_by x lines ≡ []
 lines_beyond callers object [] x may beyond = refl
@@ -102,7 +103,7 @@ module _ {shared : ObjectData} {lines : List Entry} (callers : List Caller) {rep
         made = made_both called.own ∙ ((λ i. made_lines (called.entries i) ((called.replies_are ∙ sym told) i)) ∙ sym (merged.each x));
         ending = called.ending;
         long = sym (length-map called.own entry_of) ∙ ap length called.entries;
-        stocks = worker_stocks in_row closes x d l ran.stocks;
+        alone = worker_alone in_row closes x d l;
       }
 
   abbrev own_stands : ℕ → List Stand
@@ -123,7 +124,7 @@ module _ {shared : ObjectData} {lines : List Entry} (callers : List Caller) {rep
         subst (λ (own : List Stand). AreOwn (leaves lines x) own (stands_by x closed.stands)) (sym (owned c))
         (own_and_last (leaves lines x) (record { line = record { caller = x; call = Release }; reply = Done }) c.own c.last (stands_by x closed.stands) refl c.parts c.ending);
     made = λ x l. let c = caller_of x l in ap (map made_of) (owned c) ∙ c.made;
-    stocks = λ x l. (caller_of x l).stocks;
+    alone = λ x l. (caller_of x l).alone;
   }
 
   -- what was called, merged and closed is what comes of the script

@@ -4,17 +4,17 @@ use Rattle.std.proofs.lemmas.List.{get_or-map, take_all}
 use Rattle.std.specs.List.{AllZip}
 use Rattle.big_atomic.proofs.SeatNumbers.{themselves}
 use Rattle.big_atomic.specs.Seats.{all_numbers}
-use Rattle.call_script.specs.Row.{StocksAre}
 use Rattle.flow_fold.specs.Flows.{Flows, HasRisingKeys, value_in}
 use Rattle.flow_fold.specs.Fold.{IsFold}
 use Rattle.step_rules.specs.Closing.{ClosedData}
 use Rattle.step_rules.specs.Layout.{nodes}
 use Rattle.step_rules.specs.Line.{stands_by}
 use Rattle.step_rules.specs.SeatData.{ObjectData, SeatData}
+use Rattle.step_rules.specs.Stock.{AreOfOne}
 use Rattle.step_rules.specs.Views.{count_up, number}
 use Rattle.step_rules.specs.declared.plan.Plan.{Plan}
 use Rattle.step_rules.specs.declared.view.Stand.{Stand}
-use Rattle.tally_core.proofs.ClosedWorkers.{AreInRow, some_of, worker_at, worker_stands, worker_stocks, workers_long}
+use Rattle.tally_core.proofs.ClosedWorkers.{AreInRow, some_of, worker_at, worker_alone, worker_stands, workers_long}
 use Rattle.tally_core.proofs.InOrder.{counted, in_order}
 use Rattle.tally_core.proofs.SeatStands.{items_numbered}
 use Rattle.tally_core.proofs.Many.{many}
@@ -56,8 +56,8 @@ module _ {shared : ObjectData} (workers : ℕ) (pairs : Flows) (adders : List Ad
     added = subst (λ (z : Bool × List Stand). HasAdded (slice_of workers x pairs) z.0 z.1)
         (λ i. (sym (get_or-map (λ (one : Adder). one.told) adders x d false l) i, sym stands i)) own.added
 
-    stocks : StocksAre closed.plan closed.history (stands_by x closed.stands)
-    stocks = worker_stocks in_row closes x d l own.stocks
+    alone : AreOfOne x (stands_by x closed.stands)
+    alone = worker_alone in_row closes x d l
 
   -- each worker added pairs of its slice
   has_tallied : shared.plan.seats ≡ workers → HasTallied workers pairs (full_at adders) closed
@@ -65,7 +65,7 @@ module _ {shared : ObjectData} (workers : ℕ) (pairs : Flows) (adders : List Ad
     closed_is = closes.closed_is;
     workers_are = ap (λ (p : Plan). p.seats) closes.plan_is ∙ seats;
     added = λ w l. let within : w < length adders = omega (arith, l, workers_long in_row) in added w (some_of adders (omega (arith, within))) within;
-    stocks = λ w l. let within : w < length adders = omega (arith, l, workers_long in_row) in stocks w (some_of adders (omega (arith, within))) within;
+    alone = λ w l. let within : w < length adders = omega (arith, l, workers_long in_row) in alone w (some_of adders (omega (arith, within))) within;
   }
 
   -- what all of them did

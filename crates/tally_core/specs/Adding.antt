@@ -1,7 +1,6 @@
 -- Pairs added up by workers on one shared object.
 use Rattle.std.specs.Prelude.{◌≡◌, ⊤, ℕ, ◌+◌, ◌*◌, ◌/◌, ◌^◌, ◌<◌, ◌≤◌, zero, suc, Bool, true, false, List, [], ◌∷◌, ◌++◌, count_by, length, filter, take}
 use Rattle.std.specs.List.{AllByRecursion, AllZip, between}
-use Rattle.call_script.specs.Row.{StocksAre}
 use Rattle.flow_fold.specs.Flows.{Flows, HasRisingKeys, value_in}
 use Rattle.flow_fold.specs.Fold.{IsFold}
 use Rattle.flow_fold.specs.Merge.{merge_of}
@@ -18,6 +17,7 @@ use Rattle.step_rules.specs.History.{IsKey}
 use Rattle.step_rules.specs.Lawful.{is_full}
 use Rattle.step_rules.specs.Line.{stands_by}
 use Rattle.step_rules.specs.SeatData.{SeatData}
+use Rattle.step_rules.specs.Stock.{AreOfOne}
 use Rattle.step_rules.specs.declared.plan.Plan.{Plan}
 use Rattle.step_rules.specs.declared.view.Stand.{Stand}
 
@@ -118,13 +118,13 @@ pub record HasAdded (pairs : Flows) (full : Bool) (stands : List Stand) : Type 0
   pub all : full ≡ false → count ≡ length pairs
   pub last : full ≡ true → (s : Stand) × (before : List Stand) × (stands ≡ before ++ s ∷ []) × (is_full s.reply ≡ true)
 
--- on the closed object each worker added first pairs of its slice, in order, all of them unless it was answered Full, by its number's stands;
--- and each stand keeps its worker's nodes
+-- on the closed object each worker added first pairs of its slice, in order, all of them unless it was answered Full, by the stands of
+-- its number, which are of a seat of no other
 pub record HasTallied (workers : ℕ) (pairs : Flows) (full : ℕ → Bool) (closed : ClosedData) : Type 0 where
   pub closed_is : (seat : SeatData) × IsClosed seat closed
   pub workers_are : closed.plan.seats ≡ workers
   pub added : (w : ℕ) → w < workers → HasAdded (slice_of workers w pairs) (full w) (stands_by w closed.stands)
-  pub stocks : (w : ℕ) → w < workers → StocksAre closed.plan closed.history (stands_by w closed.stands)
+  pub alone : (w : ℕ) → w < workers → AreOfOne w (stands_by w closed.stands)
 
 -- the pairs were added up to these flows, by rising key, on the closed object of this plan: each worker's stands add the pairs of its slice, each once
 -- and in order, and so the stands that add something, by rising number, add all pairs, and there are just as many

@@ -3,7 +3,6 @@ use Rattle.std.specs.Prelude.{◌≡◌, ℕ, ◌+◌, ◌<◌, ◌≤◌, Bool,
 use Rattle.std.specs.List.{AllByRecursion, AllZip}
 use Rattle.big_atomic.specs.Ready.{IsReady}
 use Rattle.cache_hash.specs.Calls.{value_at}
-use Rattle.call_script.specs.Row.{StocksAre}
 use Rattle.flow_fold.specs.Flows.{Flows}
 use Rattle.flow_fold.specs.declared.key.Key.{Key}
 use Rattle.flow_fold.specs.declared.value.Value.{Value}
@@ -38,7 +37,6 @@ pub record IsAdding (shared : ObjectData) (added : Flows) (seat : SeatData) : Ty
   pub adds : AllZip Adds added (adding_in seat.view.stands)
   pub in_range : AreInRange added
   pub calls : AllByRecursion IsTallyCall seat.view.stands
-  pub stocks : StocksAre shared.plan seat.view.seen seat.view.stands
   pub left : shared.plan.changes ≤ seat.view.changes + length added
 
 -- besides, the key had this value at the place of the seat's last stand
@@ -64,4 +62,3 @@ pub record HasWorked (shared : ObjectData) (pairs : Flows) (full : Bool) (seat :
   pub done : IsDone shared seat
   pub one : length seat.view.numbers ≡ 1
   pub added : HasAdded pairs full seat.view.stands
-  pub stocks : StocksAre shared.plan seat.view.seen seat.view.stands

@@ -5,7 +5,7 @@ use Rattle.std.specs.declared.alloc.Global.{Global}
 use Rattle.big_atomic.specs.Ready.{IsReady}
 use Rattle.big_atomic.specs.Seats.{AreLed, IsUnused, all_numbers, all_stands}
 use Rattle.call_script.specs.Holding.{MayTurn, calls_by, holds_from}
-use Rattle.call_script.specs.Row.{StocksAre, made_of}
+use Rattle.call_script.specs.Row.{made_of}
 use Rattle.call_script.specs.Run.{made_lines, own_lines}
 use Rattle.call_script.specs.Script.{MayRun}
 use Rattle.seat_history.specs.Object.{blank_object}
@@ -53,7 +53,6 @@ pub record HasCome (shared : ObjectData) (lines : List Entry) (x : ℕ) (rest : 
   pub entries : entries_of caller.seat.view.stands ++ lines_by x rest ≡ lines_by x lines
   pub replies_are : replies_of caller.seat.view.stands ≡ caller.told.items
   pub room : length (lines_by x lines) ≤ vec_capacity caller.told
-  pub stocks : StocksAre shared.plan caller.seat.view.seen caller.seat.view.stands
   pub changes : length (lines_by x rest) ≤ caller.seat.view.changes
   pub removes : removes_in (lines_by x rest) ≤ caller.seat.view.removes
   pub may : MayTurn (holds_record caller.seat.view) (calls_by x rest)
@@ -84,7 +83,6 @@ pub record HasRun (shared : ObjectData) (lines : List Entry) (x : ℕ) (caller :
   pub done : IsDone shared caller.seat
   pub numbers : caller.seat.view.numbers ≡ x ∷ []
   pub called : AreCalled lines x caller.told.items caller.seat.view.stands
-  pub stocks : StocksAre shared.plan caller.seat.view.seen caller.seat.view.stands
 
 -- each caller's lines are still to be called
 abbrev pub HaveCome : ObjectData → List Entry → List Caller → Type 0
