@@ -16,7 +16,7 @@ pub ended : (plan : Plan) (seat : SeatData) (closed : ClosedData) (won torn : �
     → IsEnding plan closed won torn
 ended plan seat closed won torn law is of kept =
     let here : Kept closed.stands won torn = subst (λ (l : List Stand). Kept l won torn) (sym is.stands) kept in
-    let fit = records_fit fits_board is_whole (record { registers = λ r. λ _. true; none_held = λ _. true }) seat closed law is (λ k d l. (here.ours k d l).0) in
+    let fit = records_fit fits_board is_whole (λ r. refl) seat closed law is (λ k d l. (here.ours k d l).0) in
     let counts : count_in ((end_of closed).registers 0) % 2 ^ 64 ≡ (0 + count_by is_yes closed.stands) % 2 ^ 64 = register_counts 0 count_in seat closed law is (λ k d l. (here.ours k d l).1) in
     record {
       plan_is = is.plan ∙ of;
