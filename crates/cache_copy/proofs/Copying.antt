@@ -1,5 +1,5 @@
 -- A change that copies its node's words.
-use Rattle.std.proofs.Common.{◌≡◌, ◌≢◌, ◌∙◌, ℕ, ◌+◌, ◌*◌, ◌^◌, ◌<◌, suc, false, List, [], ◌∷◌, ◌++◌, length, get_or, take, inr, refl, sym, ap, subst, arith}
+use Rattle.std.proofs.Common.{◌≡◌, ◌∙◌, ℕ, ◌+◌, ◌^◌, ◌<◌, suc, false, List, [], ◌∷◌, ◌++◌, length, get_or, take, inr, refl, sym, ap, subst, arith}
 use Rattle.std.proofs.Common.{append-nil, append_assoc}
 use Rattle.std.proofs.lemmas.List.{length-take-le, take_more}
 use Rattle.std.proofs.Math.Seq.{take-length}
@@ -18,16 +18,12 @@ use Rattle.step_rules.specs.SeatData.{IsOf, IsSeat, ObjectData, SeatData}
 use Rattle.step_rules.specs.Sound.{Sound}
 use Rattle.step_rules.specs.Steps.{MayLoad, Sees, stepped}
 use Rattle.step_rules.specs.Versions.{FoundVersion, IsEven}
-use Rattle.step_rules.specs.Views.{claim_of, copied_view as stored_view, counted, locked_view, missed_view, released_view, silent}
-use Rattle.step_rules.specs.Writers.{Flies}
+use Rattle.step_rules.specs.Views.{claim_of, copied_view as stored_view, counted, locked_view, released_view, silent}
 use Rattle.step_rules.specs.declared.layout.TheConstants.{NODE_WIDTH}
-use Rattle.step_rules.specs.declared.view.Claim.{Claim}
 use Rattle.step_rules.specs.declared.view.Counted.{Counted}
 use Rattle.step_rules.specs.declared.view.Kind.TheVariants.{InlineStore, MarkClear, VersionLock, VersionRelease}
-use Rattle.step_rules.specs.declared.view.Stage.{Stage}
 use Rattle.step_rules.specs.declared.view.Stage.TheVariants.{Locked, Released}
 use Rattle.step_rules.specs.declared.view.View.{View}
-use Rattle.step_rules.specs.declared.view.Writer.{Writer}
 
 own_at : (v : View) → Sound v → get_elem? v.claims OWN ≡ some (claim_of OWN v)
 own_at v sound = let four = sound.claims.four in at_there v.claims OWN (silent 0) (omega arith)

@@ -1,7 +1,7 @@
 -- A store of one word in the register 0, step by step: by a seat with the one free node 1, whose words are zeros.
-use Rattle.std.proofs.Common.{◌≡◌, ◌≢◌, ◌∙◌, ℕ, ◌+◌, ◌/◌, ◌<◌, Bool, true, false, not, ◌&&◌, eqb, ne_eqb, List, [], ◌∷◌, ◌++◌, Some, length, take, drop, map}
+use Rattle.std.proofs.Common.{◌≡◌, ◌≢◌, ◌∙◌, ℕ, ◌+◌, ◌/◌, ◌<◌, Bool, true, not, ◌&&◌, ne_eqb, List, [], ◌∷◌, ◌++◌, length, drop, map}
 use Rattle.std.proofs.Common.{get_or, nat_eq, length-append, refl, sym, ap, subst, arith, inl, inr}
-use Rattle.std.proofs.lemmas.List.{get_or-set_same, get_or-set_other}
+use Rattle.std.proofs.lemmas.List.{get_or-set_same}
 use Rattle.std.proofs.Math.Seq.{take-append_seam}
 use mathlib.Core.Option.{some}
 use lib.ListN.{get_elem?}
@@ -14,7 +14,7 @@ use Rattle.step_rules.proofs.Numbers.Places.{at_behind, at_take, at_there}
 use Rattle.step_rules.proofs.Order.MayChange.{front_may}
 use Rattle.step_rules.proofs.Ties.Notes.{drops_alone}
 use Rattle.step_rules.proofs.World.Registers.{claim_chain, claim_record, one_has, page_record, record_at}
-use Rattle.step_rules.specs.Claims.{BACK, HOLD, IsClaim, OWN, On, Tells, WALK}
+use Rattle.step_rules.specs.Claims.{BACK, HOLD, IsClaim, OWN, On, WALK}
 use Rattle.step_rules.specs.Fronts.{IsFront}
 use Rattle.step_rules.specs.Kinds.Backup.{MayExchange}
 use Rattle.step_rules.specs.Kinds.Node.{Reads}

@@ -1,4 +1,4 @@
-use Rattle.std.proofs.Common.{rules, arith, ◌≡◌, ◌+◌, ◌*◌, ◌^◌, ◌<◌, ◌%◌}
+use Rattle.std.proofs.Common.{rules, ◌+◌, ◌*◌}
 use Rattle.cache_copy.proofs.Copying.{copied_at, written_at}
 use Rattle.cache_copy.proofs.refreshing.refresh.Goals as goal
 

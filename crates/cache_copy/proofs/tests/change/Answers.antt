@@ -1,4 +1,4 @@
-use Rattle.std.proofs.Common.{rules, ◌≡◌, ◌/◌, inl, inr, refl, arith}
+use Rattle.std.proofs.Common.{rules, ◌/◌, inl, refl}
 use Rattle.cache_copy.proofs.StoredOnce.{differs, drops_noted, filled, found_before, holds_front, in_flight, is_own, may_announce_back, may_announce_own}
 use Rattle.cache_copy.proofs.StoredOnce.{may_exchange, may_load, may_recheck, to_announced, to_claimed}
 use Rattle.cache_copy.proofs.tests.change.Goals as goal
