@@ -84,7 +84,7 @@ def drawn_case(seed: int, number: int) -> tuple:
 
 def keep(files: list, words: list, seed: int, number: int, program: str) -> str:
     """Leaves the files of a case and the command that shows it in a folder of their own."""
-    folder = tempfile.mkdtemp(prefix=f"flow_tally_malformed_{seed}_{number}_")
+    folder = tempfile.mkdtemp(prefix=f"flow_tally_failure_{seed}_{number}_")
     for i, data in enumerate(files, 1):
         with open(os.path.join(folder, f"file{i}"), "wb") as out:
             out.write(data)

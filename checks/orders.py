@@ -11,6 +11,8 @@ WORD = (1 << 64) - 1
 REGISTERS = 16
 CLAIMS = 4
 MOST_STATES = 20_000
+LAST_REGISTER = re.compile(r"register (\d+) ([\d,]+)")
+LAST_PAIR = re.compile(r"record (\d+(?:,\d+)?) ([\d,]+)")
 FULL = re.compile(r"full need (0|[1-9]\d*) free (0|[1-9]\d*)")
 
 
@@ -160,6 +162,28 @@ def tellers_in(turns: list) -> dict:
     return tellers
 
 
+def writers_in(turns: list) -> dict:
+    """The calls that may change a register or a key: the caller, and the call's place."""
+    writers = {}
+    for caller, own in enumerate(turns):
+        for place, (name, words, reply) in enumerate(own):
+            if reply in ("done", "yes") or name == "remove":
+                writers.setdefault(looked_at(name, words), []).append((caller, place))
+    return writers
+
+
+def last_contents(lines: list) -> dict:
+    """The contents that the last lines of the output tell, by register and key."""
+    found = {}
+    for line in lines:
+        register, pair = LAST_REGISTER.fullmatch(line), LAST_PAIR.fullmatch(line)
+        if register is not None:
+            found["register", int(register[1])] = register[2]
+        if pair is not None:
+            found["key", numbers(pair[1], 2)] = pair[2]
+    return found
+
+
 def step(course: Course, caller: int, turn: list):
     """The course after a caller's next call, or None where its reply is another here."""
     name, words, wanted = turn
@@ -172,14 +196,21 @@ def step(course: Course, caller: int, turn: list):
 
 
 def read_on(course: Course, turns: list, places: list) -> None:
-    """Takes every call that changes nothing here: none of them can come too early."""
+    """Takes every call that changes nothing here: none of them can come too early.
+
+    A store is left, since its reply doesn't tell whether it is the one that changes the register elsewhere.
+    """
     for caller, own in enumerate(turns):
-        while places[caller] < len(own) and step(course, caller, own[places[caller]]) is course:
+        while places[caller] < len(own) and own[places[caller]][0] != "store" and step(course, caller, own[places[caller]]) is course:
             places[caller] += 1
 
 
-def changes_from(course: Course, turns: list, places: list, tellers: dict) -> list:
-    """What each caller's next call leads to; those come last whose old content the fewest later calls tell of."""
+def changes_from(course: Course, turns: list, places: list, told: tuple) -> list:
+    """What each caller's next call leads to; those come last whose old content the fewest later calls tell of.
+
+    A call is left out where nobody changes what it changed any more, and it isn't as the output's end tells.
+    """
+    tellers, writers, ends = told
     found = []
     for caller, own in enumerate(turns):
         if places[caller] == len(own):
@@ -190,8 +221,12 @@ def changes_from(course: Course, turns: list, places: list, tellers: dict) -> li
             later = list(places)
             later[caller] += 1
             cell = looked_at(turn[0], turn[1])
+            last = "0" if cell[0] == "register" else "absent"
+            is_settled = all(place < later[other] for other, place in writers.get(cell, ()))
+            if is_settled and after.content(cell) != ends.get(cell, last):
+                continue
             waiting = sum(place >= later[other] for other, place in tellers.get((cell, course.content(cell)), ()))
-            found.append((waiting, after, later))
+            found.append((0 if after is course else waiting, after, later))
     found.sort(key=lambda change: -change[0])
     return [(after, later) for _, after, later in found]
 
@@ -222,7 +257,7 @@ def explained(script: bytes, out: bytes, share: int, buckets: int, most: int = M
     turns = turns_of(script, lines[:count], callers)
     if turns is None:
         return False
-    tellers = tellers_in(turns)
+    told = tellers_in(turns), writers_in(turns), last_contents(lines[count:])
     open_states, seen = [(Course((callers, share, buckets)), [0] * callers)], set()
     while open_states and len(seen) < most:
         course, places = open_states.pop()
@@ -235,5 +270,5 @@ def explained(script: bytes, out: bytes, share: int, buckets: int, most: int = M
             if ends_of(course) == lines[count:]:
                 return True
             continue
-        open_states += changes_from(course, turns, places, tellers)
+        open_states += changes_from(course, turns, places, told)
     return None if open_states else False

@@ -41,6 +41,8 @@ record 9,4 5
 nodes 145 free 127 live 18
 """
 PLACES = RIGHT.splitlines(keepends=True)
+LATE_STORE = b"callers 2\n0 store 9 0\n0 find 1\n1 store 9 1\n1 insert 1 2\n"  # caller 0 stores after caller 1 did
+LATE_STORED = b"done\n2\ndone\ndone\nrecord 1 2\nnodes 145 free 128 live 17\n"
 FEW_NODES = b"callers 1\n0 insert 1 10\n0 insert 2 20\n0 find 2\n"
 REFUSED = b"done\nfull need 2 free 1\nabsent\nrecord 1 10\nnodes 18 free 1 live 17\n"
 
@@ -95,6 +97,7 @@ WRONG_REFUSALS = {
 def wrong_orders(checks: Checks) -> None:
     checks.is_same("an order of two callers", orders.is_explained(SCRIPT, RIGHT, 64, 1), True)
     checks.is_same("an order with a Full", orders.is_explained(FEW_NODES, REFUSED, 1, 1), True)
+    checks.is_same("an order with a late store", orders.is_explained(LATE_STORE, LATE_STORED, 64, 1), True)
     for what, out in WRONG.items():
         checks.is_same(f"no order explains {what}", orders.is_explained(SCRIPT, out, 64, 1), False)
     for what, out in WRONG_REFUSALS.items():
