@@ -1,5 +1,5 @@
 -- What a closed board holds.
-use Rattle.std.proofs.Common.{◌≡◌, ℕ, ◌+◌, ◌%◌, ◌^◌, true, List, count_by, sym, ap, subst, ◌∙◌, arith}
+use Rattle.std.proofs.Common.{◌≡◌, ℕ, ◌+◌, ◌%◌, ◌^◌, List, count_by, refl, sym, ap, subst, ◌∙◌, arith}
 use Rattle.big_atomic.proofs.CountingUp.{register_counts}
 use Rattle.big_atomic.proofs.Fitting.{records_fit}
 use Rattle.big_atomic.specs.Registers.{end_of}
