@@ -295,6 +295,7 @@ answered_now {reg = reg} {look = look} {q = q} {call = call} {reply = reply} {st
         few = subst (λ (l : List Entry). lost_steps (steps ++ clear) ≤ changes_on before.view.plan reg (number before.view) (drop look l)) (sym seen) looks.few;
         rounds = omega arith;
         tries = omega arith;
+        refreshed = λ e. absurd (false≢true e);
       };
       steps_are = refl;
       stand_is = refl;

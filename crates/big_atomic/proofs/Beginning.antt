@@ -1,13 +1,15 @@
 -- How a call that gives its register a record begins, and how a store begins another turn.
-use Rattle.std.proofs.Common.{◌≡◌, ◌∙◌, ℕ, ◌-◌, ◌*◌, ◌<◌, ◌≤◌, ◌+◌, true, false, List, ◌++◌, Option, None, Some, unwrap_or, length, drop, length-append, refl, sym, ap, subst, arith, inl, inr, ⊎_elim}
+use Rattle.std.proofs.Common.{◌≡◌, ◌∙◌, ℕ, ◌-◌, ◌*◌, ◌<◌, ◌≤◌, ◌+◌, true, false, List, [], ◌++◌, Option, None, Some, unwrap_or, length, drop, length-append, refl, sym, ap, subst, arith, inl, inr, ⊎_elim}
 use Rattle.std.proofs.Math.Seq.{drop-append_seam}
 use Rattle.std.proofs.lemmas.Bool.{false≢true}
 use Rattle.big_atomic.proofs.Deciding.{first_at, store_agrees, store_gives, swap_gives}
 use Rattle.big_atomic.proofs.Goings.{calling_then}
+use Rattle.big_atomic.proofs.Marking.{turn_behind}
 use Rattle.big_atomic.proofs.Pacing.{paces_then}
 use Rattle.big_atomic.proofs.Paid.{exchanges-append, scan_loads-append}
 use Rattle.big_atomic.proofs.Refusing.{changed_unlike}
-use Rattle.big_atomic.specs.Calling.{Began, Goes, HasClaimedRecord, HasSeen, HasTried, tried_at}
+use Rattle.big_atomic.proofs.Versioned.{seen_begun}
+use Rattle.big_atomic.specs.Calling.{Began, Goes, HasSeen, HasStartedRecord, HasTried, tried_at}
 use Rattle.big_atomic.specs.Giving.{AtTurn, Begun, HasClaimedNode, HasDecided, HasLostTurn, HasOther, IsOnce}
 use Rattle.big_atomic.specs.Ready.{IsReady}
 use Rattle.big_atomic.specs.Turns.{exchanges, lost_steps}
@@ -19,6 +21,8 @@ use Rattle.step_rules.proofs.Line.Trails.{longer_seen}
 use Rattle.step_rules.specs.Claims.{BACK, HOLD, OWN, WALK}
 use Rattle.step_rules.specs.Kinds.Standing.{first_look}
 use Rattle.step_rules.specs.SeatData.{IsSeat, ObjectData, SeatData}
+use Rattle.step_rules.specs.Steps.{stepped}
+use Rattle.step_rules.specs.Views.{version_view}
 use Rattle.step_rules.specs.declared.plan.Plan.{Plan}
 use Rattle.step_rules.specs.declared.view.Claim.{Claim}
 use Rattle.step_rules.specs.declared.view.Counted.{Counted}
@@ -39,47 +43,67 @@ module _ {shared : ObjectData} {reg : ℕ} (old new : List ℕ) {before : SeatDa
   abbrev swap_begun : ℕ → Begun shared reg new Yes (Swap reg old new)
   swap_begun look = record { gives = swap_gives reg old new old_wide wide; before = before; began = began; look = look; once = true }
 
-  swap_first : {word claims lost : ℕ} {now : SeatData} (s : HasSeen BACK reg word claims before now) → claims ≤ 1 → length s.steps ≡ 3 → lost_steps s.steps ≤ lost → IsSeat now → AtTurn (swap_begun (tried_at reg now.view)) lost 3 now
-  swap_first {now = now} s serves three low law =
-      let none = s.looks.none_exchanged in
-      first_at {b = swap_begun (tried_at reg now.view)} s serves (sym (looked_back (s.goes None) three s.looked.looked)) (λ _. record { lost_most = omega arith; tried_most = omega arith; most = omega arith }) law
+  -- it found the version before
+  module _ {version : ℕ} {mid : SeatData} (is : mid ≡ stepped (version_view reg version before.view) before) where
+    abbrev swap_first : {word claims lost : ℕ} {now : SeatData} (s : HasSeen BACK reg word claims mid now) → claims ≤ 1 → length s.steps ≡ 3
+        → lost_steps s.steps ≤ lost → IsSeat now → AtTurn (swap_begun (tried_at reg now.view)) lost 4 now
+    swap_first {now = now} s serves three low law =
+        let none = s.looks.none_exchanged in
+        first_at {b = swap_begun (tried_at reg now.view)} (seen_begun before mid is s) serves (sym (looked_back (s.goes None) three s.looked.looked))
+        (λ _. record { lost_most = omega arith; tried_most = omega arith; most = omega arith }) law
 
-  pub swap_starts : {word : ℕ} {now : SeatData} → HasTried BACK reg (Same word) before now → IsSeat now
-      → (b : Begun shared reg new Yes (Swap reg old new)) × IsOnce (tried_at reg now.view) b × (b.before ≡ before) × HasClaimedNode b word now
-  swap_starts {now = now} t law = (swap_begun (tried_at reg now.view), record { look_is = refl; once = refl }, refl, record { at = swap_first t.0 (omega arith) t.1 (let none = t.2 in omega arith) law; claim = t.3 })
+    pub swap_starts : {word : ℕ} {now : SeatData} → HasTried BACK reg (Same word) mid now → IsSeat now
+        → (b : Begun shared reg new Yes (Swap reg old new)) × IsOnce (tried_at reg now.view) b × (b.before ≡ before) × HasClaimedNode b version word now
+    swap_starts {now = now} t law = (
+      swap_begun (tried_at reg now.view),
+      record { look_is = refl; once = refl },
+      refl,
+      record {
+        at = swap_first t.0 (omega arith) t.1 (let none = t.2 in omega arith) law;
+        turn = record { loaded = record { front = []; saw = length before.view.seen; rest = t.0.steps; whole = refl; kept = t.2 }; looked = t.4 };
+        claim = t.3;
+      },
+    )
 
-  -- others changed the register since
-  pub swap_late : {word : ℕ} {now : SeatData} → HasTried BACK reg (Other word) before now → IsSeat now
-      → (b : Begun shared reg new Yes (Swap reg old new)) × IsOnce (tried_at reg now.view) b × (b.before ≡ before) × HasOther b old now
-  swap_late {now = now} t law = (
-    swap_begun (tried_at reg now.view),
-    record { look_is = refl; once = refl },
-    refl,
-    changed_unlike (swap_first t.0 (omega arith) t.1 t.2 law) (omega arith) (omega arith)
-        (let is : tried_at reg now.view ≡ t.0.look = looked_back (t.0.goes None) t.1 t.0.looked.looked in omega arith) t.3,
-  )
+    -- others changed the register since
+    pub swap_late : {word : ℕ} {now : SeatData} → HasTried BACK reg (Other word) mid now → IsSeat now
+        → (b : Begun shared reg new Yes (Swap reg old new)) × IsOnce (tried_at reg now.view) b × (b.before ≡ before) × HasOther b old now
+    swap_late {now = now} t law = (
+      swap_begun (tried_at reg now.view),
+      record { look_is = refl; once = refl },
+      refl,
+      changed_unlike (swap_first t.0 (omega arith) t.1 t.2 law) (omega arith) (omega arith)
+          (let is : tried_at reg now.view ≡ t.0.look = looked_back (t.0.goes None) t.1 t.0.looked.looked in omega arith) t.3,
+    )
 
 -- A STORE
-pub store_starts : {shared : ObjectData} {reg word : ℕ} {rec new : List ℕ} {before now : SeatData} → Began shared reg before → length new ≡ WIDTH → HasClaimedRecord BACK reg word rec before now → IsSeat now
-    → (b : Begun shared reg new Done (Store reg new)) × (b.before ≡ before) × (b.once ≡ false) × HasDecided b word rec now
+pub store_starts : {shared : ObjectData} {reg version word : ℕ} {rec new : List ℕ} {before now : SeatData} → Began shared reg before → length new ≡ WIDTH
+    → HasStartedRecord reg version word rec before now → IsSeat now
+    → (b : Begun shared reg new Done (Store reg new)) × (b.before ≡ before) × (b.once ≡ false) × HasDecided b version word rec now
 store_starts {shared = shared} {reg = reg} {rec = rec} {new = new} {before = before} began wide h law =
-    let b : Begun shared reg new Done (Store reg new) = record { gives = store_gives reg new wide; before = before; began = began; look = h.0.0.look; once = false } in (
+    let b : Begun shared reg new Done (Store reg new) = record { gives = store_gives reg new wide; before = before; began = began; look = h.0.0.0.look; once = false } in (
       b,
       refl,
       refl,
-      record { at = first_at {b = b} h.0.0 (omega arith) refl (λ e. absurd (false≢true e)) law; claim = h.0.1; there = h.1; agrees = store_agrees reg rec new },
+      record {
+        at = first_at {b = b} h.0.0.0 (omega arith) refl (λ e. absurd (false≢true e)) law;
+        turn = h.1;
+        claim = h.0.0.1;
+        there = h.0.1;
+        agrees = store_agrees reg rec new;
+      },
     )
 
 -- after a lost turn its register's node was claimed anew
-module _ {shared : ObjectData} {reg word seen : ℕ} {rec new : List ℕ} {b : Begun shared reg new Done (Store reg new)} {mid now : SeatData}
-    (l : HasLostTurn b seen mid) (any : b.once ≡ false) (h : HasClaimedRecord BACK reg word rec mid now) (law : IsSeat now) where
+module _ {shared : ObjectData} {reg version word seen : ℕ} {rec new : List ℕ} {b : Begun shared reg new Done (Store reg new)} {mid now : SeatData}
+    (l : HasLostTurn b seen mid) (any : b.once ≡ false) (h : HasStartedRecord reg version word rec mid now) (law : IsSeat now) where
   abbrev s : HasSeen BACK reg word 1 mid now
-  s = h.0.0
+  s = h.0.0.0
 
   tried : 0 < exchanges (l.at.past.steps ++ s.steps)
   tried = let some = l.tried in omega (arith, exchanges-append l.at.past.steps s.steps)
 
-  abbrev again_at : AtTurn b 0 (WIDTH + 4) now
+  abbrev again_at : AtTurn b 0 (WIDTH + 5) now
   again_at =
       let p = l.at.past in record {
         past = record {
@@ -103,8 +127,8 @@ module _ {shared : ObjectData} {reg word seen : ℕ} {rec new : List ℕ} {b : B
         );
       }
 
-  pub store_again : HasDecided b word rec now
-  store_again = record { at = again_at; claim = h.0.1; there = h.1; agrees = store_agrees reg rec new }
+  pub store_again : HasDecided b version word rec now
+  store_again = record { at = again_at; turn = turn_behind l.at.past.steps s.steps h.1; claim = h.0.0.1; there = h.0.1; agrees = store_agrees reg rec new }
 
   -- and more was seen
   pub turn_smaller : (old : View) → old.plan ≡ b.before.view.plan → length old.seen ≡ seen → now.view.plan.seats * now.view.plan.changes - length now.view.seen < old.plan.seats * old.plan.changes - length old.seen

@@ -190,7 +190,7 @@ turned which reg seen (Same word) old mid new t r =
 turned which reg seen (Other word) old mid new t r = turned_other which reg seen old mid new t word r.answers.0 r.answers.1 r.same
 
 -- what a look alone has seen
-pub seen_first : (c reg word : ℕ) (before now : SeatData) → LookedOnce reg word before now → HasSeen c reg word 0 before now
+unfoldable pub seen_first : (c reg word : ℕ) (before now : SeatData) → LookedOnce reg word before now → HasSeen c reg word 0 before now
 seen_first c reg word before now f =
     let g : Goes reg None (counted (BackupLoad reg) word (length now.view.seen) ∷ []) before now = f.0 None in record {
       steps = counted (BackupLoad reg) word (length now.view.seen) ∷ [];
@@ -209,7 +209,7 @@ seen_first c reg word before now f =
     }
 
 -- a turn is one claim round at most
-turn_round : (c reg seen word : ℕ) (before now : SeatData) → claim_rounds (turn_steps c reg seen word before now) ≤ 1
+pub turn_round : (c reg seen word : ℕ) (before now : SeatData) → claim_rounds (turn_steps c reg seen word before now) ≤ 1
 turn_round c reg seen word before now = by (is_claim_round (Recheck c reg seen))
   where
     by : (b : Bool) → length (cond b (counted (Recheck c reg seen) word (length now.view.seen) ∷ []) []) ≤ 1
@@ -217,7 +217,7 @@ turn_round c reg seen word before now = by (is_claim_round (Recheck c reg seen))
     by false = omega arith
 
 -- looks, and then one more turn, whose claim serves where no step was lost
-pub seen_further : {c reg seen word claims : ℕ} {before mid now : SeatData} → HasSeen c reg seen 0 before mid → TurnedOnce c reg seen word mid now
+unfoldable pub seen_further : {c reg seen word claims : ℕ} {before mid now : SeatData} → HasSeen c reg seen 0 before mid → TurnedOnce c reg seen word mid now
     → 1 ≤ lost_steps (turn_steps c reg seen word mid now) + claims → HasSeen c reg word claims before now
 seen_further {c} {reg} {seen} {word} {claims} {before} {mid} {now} s t serves = record {
   steps = s.steps ++ turn_steps c reg seen word mid now;
@@ -245,7 +245,20 @@ none_later p k n a b low on none =
 -- a look, and one turn
 pub tried : (c reg seen : ℕ) (answer : Answer) (before mid now : SeatData) → LookedOnce reg seen before mid → HasTurned c reg seen answer mid now → HasTried c reg answer before now
 unfolding seen_first seen_further
-tried c reg seen (Same word) before mid now f t = (seen_further (seen_first c reg seen before mid f) t.0 (let none = t.1 in omega arith), refl, t.1, t.2)
+tried c reg seen (Same word) before mid now f t = (
+  seen_further (seen_first c reg seen before mid f) t.0 (let none = t.1 in omega arith),
+  refl,
+  t.1,
+  t.2,
+  record {
+    front = counted (BackupLoad reg) seen (length mid.view.seen) ∷ counted (ClaimStore c (seen / 2)) (seen / 2 + 1) (length mid.view.seen) ∷ [];
+    look = counted (Recheck c reg seen) word (length now.view.seen);
+    back = [];
+    whole = refl;
+    looks = eq-eqb reg reg refl;
+    found = refl;
+  },
+)
 tried c reg seen (Other word) before mid now f t =
     let s = seen_first c reg seen before mid f in (
       seen_further s t.0 (let one = t.1 in omega arith),
@@ -294,7 +307,7 @@ claim_stays {c} {reg} {word} r h = subst (λ (z : SeatData). HasClaim c reg word
     (record { stands = h.stands; cell = h.cell; now_at = h.now_at; found = h.found; none = h.none })
 
 -- the claimed node's record was read
-pub claimed_read : {c reg word : ℕ} {rec : List ℕ} {before mid now : SeatData} → Tells c → reg < before.view.plan.registers
+unfoldable pub claimed_read : {c reg word : ℕ} {rec : List ℕ} {before mid now : SeatData} → Tells c → reg < before.view.plan.registers
     → HasClaimed c reg word before mid → HasRead (word / 2) rec mid now → Sound now.view
     → HasClaimedRecord c reg word rec before now
 claimed_read {c} {reg} {word} {rec} {before} {mid} {now} tells there h r sound =

@@ -6,12 +6,14 @@ use Rattle.big_atomic.proofs.Answered.{EndsAs, MayEnd, clear_step, ended_as, rig
 use Rattle.big_atomic.proofs.Balance.{CostsNone, nodes_stay}
 use Rattle.big_atomic.proofs.Claimed.{claim_stays, loads_length, loads_still, loads_unscanned, looks_then, read_goes, record_read}
 use Rattle.big_atomic.proofs.Goings.{calling_then}
+use Rattle.big_atomic.proofs.Marking.{turn_more}
 use Rattle.big_atomic.proofs.Pacing.{paces_still, paces_then, paces_within}
 use Rattle.big_atomic.proofs.Paid.{costs_then, costs_within, exchanges-append, scan_loads-append, still_exchanges, still_lost}
 use Rattle.big_atomic.proofs.Scanning.{scan_all, scan_few, scan_goes, scan_lost, scan_paced, scan_seen, scan_tried, scan_view}
 use Rattle.big_atomic.specs.Calling.{Costs, HasClaim, HasRead, HasRoom, HasSeen, IsLooked}
 use Rattle.big_atomic.specs.Calls.{IsFirstUnlike, IsStored, IsSwapped, ScansForWant, register_at, store_reply, swap_reply}
 use Rattle.big_atomic.specs.Giving.{Agrees, AtTurn, Begun, Gives, HasClaimedNode, HasDecided, HasTold, OnlyLooked, Past}
+use Rattle.big_atomic.specs.Marks.{HasTurn}
 use Rattle.big_atomic.specs.Ready.{IsReady}
 use Rattle.big_atomic.specs.Turns.{exchanges}
 use Rattle.big_atomic.specs.declared.answers.Stored.{Stored}
@@ -94,7 +96,8 @@ costs_none g rs = (ap (λ (e : Edit). cost_of (length rs) e) (g.edits rs), ap (�
 module _ {shared : ObjectData} {reg : ℕ} {new : List ℕ} {done : Reply} {call : Call} where
   module _ {b : Begun shared reg new done call} where
     -- A CALL BEGAN WITH LOOKS
-    pub first_at : {word claims lost most : ℕ} {now : SeatData} (s : HasSeen BACK reg word claims b.before now) → claims ≤ 1 → s.look ≡ b.look → (b.once ≡ true → Costs lost (2 * lost) most s.steps) → IsSeat now → AtTurn b lost most now
+    abbrev pub first_at : {word claims lost most : ℕ} {now : SeatData} (s : HasSeen BACK reg word claims b.before now) → claims ≤ 1 → s.look ≡ b.look
+        → (b.once ≡ true → Costs lost (2 * lost) most s.steps) → IsSeat now → AtTurn b lost most now
     first_at {now = now} s serves is spent law = record {
       past = record {
         steps = s.steps;
@@ -136,27 +139,28 @@ module _ {shared : ObjectData} {reg : ℕ} {new : List ℕ} {done : Reply} {call
     }
 
     -- THE RECORD WAS READ
-    module _ {word : ℕ} {rec : List ℕ} {mid now : SeatData} (h : HasClaimedNode b word mid) (r : HasRead (word / 2) rec mid now) (law : IsSeat now) where
-      abbrev p : Past b 0 3 mid
+    module _ {version word : ℕ} {rec : List ℕ} {mid now : SeatData} (h : HasClaimedNode b version word mid) (r : HasRead (word / 2) rec mid now)
+        (law : IsSeat now) where
+      abbrev p : Past b 0 4 mid
       p = h.at.past
 
       abbrev loads : List Counted
       loads = load_steps (word / 2) 0 r.words (length mid.view.seen)
 
-      read_view : now.view ≡ record mid.view { trail = mid.view.trail ++ loads }
+      pub read_view : now.view ≡ record mid.view { trail = mid.view.trail ++ loads }
       read_view = ap (λ (z : SeatData). z.view) r.read.same
 
       -- it is as wide as a node
-      wide : length r.words ≡ NODE_WIDTH
+      pub wide : length r.words ≡ NODE_WIDTH
       wide =
           let four = p.law.sound.claims.four in
           let at = at_there mid.view.claims BACK (silent 0) (omega arith) in
           ap length (r.read.claimed BACK (claim_of BACK mid.view) at h.claim.stands) ∙ (p.law.sound.claims.there BACK (word / 2) (claim_of BACK mid.view) at h.claim.stands).1
 
-      tried : exchanges (p.steps ++ loads) ≡ exchanges p.steps
+      pub tried : exchanges (p.steps ++ loads) ≡ exchanges p.steps
       tried = let none = still_exchanges loads (loads_still (word / 2) 0 (length mid.view.seen) r.words) in omega (arith, exchanges-append p.steps loads)
 
-      abbrev read_past : Past b 0 (WIDTH + 4) now
+      abbrev read_past : Past b 0 (WIDTH + 5) now
       read_past = record {
         steps = p.steps ++ loads;
         calling = calling_then p.calling (read_goes reg (word / 2) r.words mid now r.read law.sound) (ap (λ (z : View). claim_of HOLD z) read_view);
@@ -174,7 +178,7 @@ module _ {shared : ObjectData} {reg : ℕ} {new : List ℕ} {done : Reply} {call
             costs_then loads (p.spent once) (still_lost loads still) (still_exchanges loads still) (omega (arith, wide, loads_length (word / 2) 0 (length mid.view.seen) r.words));
       }
 
-      pub read_at : AtTurn b 0 (WIDTH + 4) now
+      abbrev pub read_at : AtTurn b 0 (WIDTH + 5) now
       read_at = record {
         past = read_past;
         turn = ⊎_elim
@@ -198,8 +202,14 @@ module _ {shared : ObjectData} {reg : ℕ} {new : List ℕ} {done : Reply} {call
       read_there = ap (λ (z : View). register_at z (length z.seen) reg) read_view ∙ (ap (λ (n : ℕ). register_at mid.view n reg) (sym h.claim.now_at)
           ∙ record_read BACK reg (word / 2) rec mid now (inl refl) (there_now p) p.law.sound h.claim.stands h.claim.cell r)
 
-      pub decided : Agrees reg rec new done call → HasDecided b word rec now
-      decided agrees = record { at = read_at; claim = read_claim; there = read_there; agrees = agrees }
+      pub decided : Agrees reg rec new done call → HasDecided b version word rec now
+      decided agrees = record {
+        at = read_at;
+        turn = turn_more p.steps loads (still_lost loads (loads_still (word / 2) 0 (length mid.view.seen) r.words)) h.turn;
+        claim = read_claim;
+        there = read_there;
+        agrees = agrees;
+      }
 
     pub legal_now : {lost most : ℕ} {now : SeatData} → Past b lost most now → IsLegal now.view.plan (held_by now.view.seen (number now.view) now.view.stands) call
     legal_now {now = now} p = record {
@@ -253,7 +263,7 @@ module _ {shared : ObjectData} {reg : ℕ} {new : List ℕ} {done : Reply} {call
           )
 
     -- the record is there already
-    module _ {word : ℕ} {rec : List ℕ} {now : SeatData} (d : HasDecided b word rec now) (same : is_same rec new ≡ true) where
+    module _ {version word : ℕ} {rec : List ℕ} {now : SeatData} (d : HasDecided b version word rec now) (same : is_same rec new ≡ true) where
       pub end_there : MayEnd reg b.look (length now.view.seen) call done d.at.past.steps b.before now
       end_there =
           let none : is_change (state_at now.view.seen (length now.view.seen)) call ≡ false = d.agrees.changes (state_at now.view.seen (length now.view.seen)) d.there ∙ ap not same in
@@ -267,14 +277,16 @@ module _ {shared : ObjectData} {reg : ℕ} {new : List ℕ} {done : Reply} {call
       told_there is law = (told d.at end_there b.gives.not_full is law (omega arith) (omega arith)).0
 
 -- ROOM FOR ONE NODE: what was found in the register stays
-pub record HasRoomFor {shared : ObjectData} {reg : ℕ} {new : List ℕ} {done : Reply} {call : Call} (b : Begun shared reg new done call) (word seen : ℕ) (now : SeatData) : Type 0 where
-  pub past : Past b 0 (WIDTH + 5 + 4 * b.before.view.plan.seats) now
+pub record HasRoomFor {shared : ObjectData} {reg : ℕ} {new : List ℕ} {done : Reply} {call : Call} (b : Begun shared reg new done call)
+    (version word seen : ℕ) (now : SeatData) : Type 0 where
+  pub past : Past b 0 (WIDTH + 6 + 4 * b.before.view.plan.seats) now
+  pub turn : HasTurn reg version word past.steps
   pub claim : HasClaim BACK reg word now
   pub seen_is : length now.view.seen ≡ seen
   pub changes : is_change (state_at now.view.seen (length now.view.seen)) call ≡ true
   pub free : 0 < length now.free
 
-module _ {shared : ObjectData} {reg : ℕ} {new : List ℕ} {done : Reply} {call : Call} {b : Begun shared reg new done call} {word : ℕ} {rec : List ℕ} {u : SeatData} (d : HasDecided b word rec u) where
+module _ {shared : ObjectData} {reg : ℕ} {new : List ℕ} {done : Reply} {call : Call} {b : Begun shared reg new done call} {version word : ℕ} {rec : List ℕ} {u : SeatData} (d : HasDecided b version word rec u) where
   -- where none was, this is the call's first turn
   pub turn_first : u.free ≡ [] → OnlyLooked d.at.past.steps b.before u
   turn_first none = ⊎_elim (λ o. o) (λ t. absurd (let free = t.1 in omega (arith, ap (length {A = ℕ}) none))) d.at.turn
@@ -284,10 +296,11 @@ module _ {shared : ObjectData} {reg : ℕ} {new : List ℕ} {done : Reply} {call
   changes_now other = d.agrees.changes (state_at u.view.seen (length u.view.seen)) d.there ∙ ap not other
 
   -- a node was free already
-  room_there : is_same rec new ≡ false → 0 < length u.free → HasRoomFor b word (length u.view.seen) u
+  room_there : is_same rec new ≡ false → 0 < length u.free → HasRoomFor b version word (length u.view.seen) u
   room_there other free =
       record {
         past = past_within d.at.past (omega arith) (omega arith);
+        turn = d.turn;
         claim = d.claim;
         seen_is = refl;
         changes = changes_now other;
@@ -295,7 +308,8 @@ module _ {shared : ObjectData} {reg : ℕ} {new : List ℕ} {done : Reply} {call
       }
 
   -- a scan freed one
-  room_scanned : {w : SeatData} → is_same rec new ≡ false → u.free ≡ [] → IsScan u w → IsSeat w → 0 < length w.free → HasRoomFor b word (length u.view.seen) w
+  room_scanned : {w : SeatData} → is_same rec new ≡ false → u.free ≡ [] → IsScan u w → IsSeat w → 0 < length w.free
+      → HasRoomFor b version word (length u.view.seen) w
   room_scanned {w} other none s law free =
       let o = turn_first none in
       let p = d.at.past in
@@ -317,6 +331,7 @@ module _ {shared : ObjectData} {reg : ℕ} {new : List ℕ} {done : Reply} {call
           never = λ never. let none_tried = p.never never in omega (arith, exchanges-append p.steps scan, scan_tried s p.law law);
           spent = λ once. costs_then scan (p.spent once) (scan_lost s p.law law) (scan_tried s p.law law) (omega (arith, scan_few s p.law law));
         };
+        turn = turn_more p.steps scan (scan_lost s p.law law) d.turn;
         claim = record {
           stands = subst (λ (y : Claim). On y (word / 2)) (sym same) d.claim.stands;
           cell = ap (λ (y : Claim). y.cell) same ∙ d.claim.cell;
@@ -329,9 +344,9 @@ module _ {shared : ObjectData} {reg : ℕ} {new : List ℕ} {done : Reply} {call
         free = free;
       }
 
-  pub room_for : {w : SeatData} → is_same rec new ≡ false → HasRoom true u w → IsSeat w → HasRoomFor b word (length u.view.seen) w
+  pub room_for : {w : SeatData} → is_same rec new ≡ false → HasRoom true u w → IsSeat w → HasRoomFor b version word (length u.view.seen) w
   room_for other r law = ⊎_elim
-      (λ had. subst (λ (z : SeatData). HasRoomFor b word (length u.view.seen) z) (sym had.1) (room_there other had.0))
+      (λ had. subst (λ (z : SeatData). HasRoomFor b version word (length u.view.seen) z) (sym had.1) (room_there other had.0))
       (λ made. room_scanned other made.0 made.1 law (r.some_free refl))
       r.made
 

@@ -10,7 +10,10 @@ use Rattle.hazard_claims.specs.Claiming.{IsReleased, claim_number}
 use Rattle.hazard_claims.specs.Scanning.{ClearsWalk}
 use Rattle.hazard_claims.specs.declared.claims.Claim.{Claim as Which}
 use Rattle.hazard_claims.specs.declared.claims.Claim.TheVariants.{Walk}
+use Rattle.step_rules.proofs.Line.Trails.{goes_on_same}
+use Rattle.step_rules.proofs.Rely.Advance.{goes_further}
 use Rattle.step_rules.specs.Claims.{HOLD, On, WALK}
+use Rattle.step_rules.specs.History.{GoesOn}
 use Rattle.step_rules.specs.SeatData.{IsOf, ObjectData, SeatData}
 use Rattle.step_rules.specs.Views.{claim_of, cleared_view, counted, silent}
 use Rattle.step_rules.specs.declared.view.Claim.{Claim}
@@ -18,12 +21,13 @@ use Rattle.step_rules.specs.declared.view.Counted.{Counted}
 use Rattle.step_rules.specs.declared.view.Kind.TheVariants.{ClaimClear}
 use Rattle.step_rules.specs.declared.view.View.{View}
 
--- claims but Hold were ended, by these steps
+-- by these steps claims but Hold were ended, and the cell was refreshed
 pub record EndsBy (clears : List Counted) (u w : SeatData) : Type 0 where
   pub object : w.object ≡ u.object
   pub first : w.first ≡ u.first
   pub holding : w.holding ≡ u.holding
-  pub view : w.view ≡ record u.view { claims = w.view.claims; trail = u.view.trail ++ clears; writer = w.view.writer }
+  pub view : w.view ≡ record u.view { seen = w.view.seen; look = w.view.look; claims = w.view.claims; trail = u.view.trail ++ clears; writer = w.view.writer }
+  pub seen : GoesOn u.view.seen w.view.seen
   pub still : AreStill clears
   pub none_scanned : scan_loads clears ≡ 0
   pub hold : claim_of HOLD w.view ≡ claim_of HOLD u.view
@@ -63,7 +67,15 @@ ends_one which u w other is =
       object = ap (λ (z : SeatData). z.object) is;
       first = ap (λ (z : SeatData). z.first) is;
       holding = ap (λ (z : SeatData). z.holding) is;
-      view = subst (λ (z : View). z ≡ record u.view { claims = z.claims; trail = u.view.trail ++ clearing (claim_number which) u; writer = z.writer }) (sym view) refl;
+      view = subst (λ (z : View). z ≡ record u.view {
+        seen = z.seen;
+        look = z.look;
+        claims = z.claims;
+        trail = u.view.trail ++ clearing
+            (claim_number which) u;
+        writer = z.writer;
+      }) (sym view) refl;
+      seen = subst (λ (z : View). GoesOn u.view.seen z.seen) (sym view) (goes_on_same u.view.seen);
       still = refl;
       none_scanned = refl;
       hold = released_else which u w HOLD is other;
@@ -75,6 +87,7 @@ ends_none u w is = subst (λ (z : SeatData). EndsBy [] u z) (sym is) (record {
   first = refl;
   holding = refl;
   view = ap (λ (t : List Counted). record u.view { trail = t }) (sym (append-nil u.view.trail));
+  seen = goes_on_same u.view.seen;
   still = refl;
   none_scanned = refl;
   hold = refl;
@@ -88,8 +101,10 @@ ends_then {a} {b} {u} {v} {w} p q =
       object = q.object ∙ p.object;
       first = q.first ∙ p.first;
       holding = q.holding ∙ p.holding;
-      view = q.view ∙ (ap (λ (z : View). record z { claims = w.view.claims; trail = z.trail ++ b; writer = w.view.writer }) p.view
-          ∙ ap (λ (t : List Counted). record u.view { claims = w.view.claims; trail = t; writer = w.view.writer }) (append_assoc u.view.trail a b));
+      view = q.view ∙ (ap (λ (z : View). record z { seen = w.view.seen; look = w.view.look; claims = w.view.claims; trail = z.trail ++ b; writer = w.view.writer }) p.view
+          ∙ ap (λ (t : List Counted). record u.view { seen = w.view.seen; look = w.view.look; claims = w.view.claims; trail = t; writer = w.view.writer })
+          (append_assoc u.view.trail a b));
+      seen = goes_further u.view.seen v.view.seen w.view.seen q.seen.0 p.seen q.seen.1;
       still = still-append a b p.still q.still;
       none_scanned = omega (arith, scan_loads-append a b);
       hold = q.hold ∙ p.hold;

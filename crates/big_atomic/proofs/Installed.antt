@@ -1,19 +1,23 @@
 -- What an install leaves, and how its call is answered.
-use Rattle.std.proofs.Common.{◌≡◌, ◌≢◌, ◌∙◌, ℕ, ◌+◌, ◌<◌, ◌≤◌, true, List, [], ◌∷◌, ◌++◌, Option, Some, length, take, drop, length-append, refl, sym, ap, subst, arith}
+use Rattle.std.proofs.Common.{◌≡◌, ◌≢◌, ◌∙◌, ℕ, ◌+◌, ◌<◌, ◌≤◌, true, List, [], ◌∷◌, ◌++◌, Option, Some, length, take, drop, length-append, append_assoc, refl, sym, ap, subst, arith}
 use Rattle.std.proofs.lemmas.List.{get_or-set_other}
 use Rattle.big_atomic.proofs.Answered.{goes_of}
 use Rattle.big_atomic.proofs.Claimed.{lost_longer}
 use Rattle.big_atomic.proofs.Ending.{EndsBy, EndsWalk, clearing, cleared_word, ends_one, ends_then, ends_walk, released_else, released_ours, released_word}
 use Rattle.big_atomic.proofs.Goings.{calling_then, goes_still, goes_then}
+use Rattle.big_atomic.proofs.Marking.{Marks, begun_found, ends_refresh, marks_of, tries_more, version_more}
 use Rattle.big_atomic.proofs.Pacing.{paces_still, paces_then}
 use Rattle.big_atomic.proofs.Paid.{costs_then, costs_within, exchanges-append, lost-append, scan_loads-append}
 use Rattle.big_atomic.proofs.Winning.{WonCall, all_steps, exchanges_most, stand, won_costs, won_ready, won_records, won_scanned, won_tried}
-use Rattle.big_atomic.specs.Calling.{Calling, Costs, Goes, HasLost, OnlySteps, Paces}
-use Rattle.big_atomic.specs.Installing.{Exchanged, HasInstalled, HasMoved, HasNear, MayInstall}
+use Rattle.big_atomic.specs.Calling.{Calling, Costs, Goes, HasLost, HasWon, OnlySteps, Paces}
+use Rattle.big_atomic.specs.Installing.{Exchanged, HasInstalled, HasMoved, HasNear, MayInstall, TriesMark}
+use Rattle.big_atomic.specs.Marks.{HasBegun, HasVersion}
 use Rattle.big_atomic.specs.Ready.{IsReady}
 use Rattle.big_atomic.specs.Turns.{exchanges, lost_steps, scan_loads}
 use Rattle.big_atomic.specs.declared.answers.Install.{Install as Answer}
 use Rattle.big_atomic.specs.declared.answers.Install.TheVariants.{Installed, Moved}
+use Rattle.cache_copy.specs.Refreshing.{IsInFlight, OnlyRefreshed, Refreshes}
+use Rattle.cache_copy.specs.declared.answers.Refresh.{Refresh}
 use Rattle.hazard_claims.specs.Claiming.{IsAnnounced, IsReleased}
 use Rattle.hazard_claims.specs.Scanning.{ClearsWalk}
 use Rattle.hazard_claims.specs.declared.claims.Claim.TheVariants.{Back, Own}
@@ -33,8 +37,10 @@ use Rattle.step_rules.specs.Records.{dropped_count, edit_of, need, records_at, r
 use Rattle.step_rules.specs.SeatData.{IsOf, IsSeat, ObjectData, SeatData}
 use Rattle.step_rules.specs.Sound.{Sound}
 use Rattle.step_rules.specs.Steps.{DropsNoted, HoldsFront, MayClaim}
+use Rattle.step_rules.specs.Versions.{FoundVersion}
 use Rattle.step_rules.specs.Views.{announced, announced_view, claim_of, claimed_edit, claimed_pages, claimed_records, cleared_view, counted, followed, fresh_of, silent, stock}
 use Rattle.step_rules.specs.World.{has, nodes_of}
+use Rattle.step_rules.specs.declared.layout.TheConstants.{NODE_WIDTH}
 use Rattle.step_rules.specs.declared.plan.Plan.{Plan}
 use Rattle.step_rules.specs.declared.view.Claim.{Claim}
 use Rattle.step_rules.specs.declared.view.Counted.{Counted}
@@ -122,10 +128,44 @@ exchanged_ours cell seen node call u w Installed e of = record {
 }
 exchanged_ours cell seen node call u w (Moved word) e of = goes_of e.goes of
 
+-- the seat stays of its object through a refresh
+pub refreshed_ours : {shared : ObjectData} (u w : SeatData) → OnlyRefreshed u w → IsOf shared u → IsOf shared w
+refreshed_ours u w only of = record {
+  object = ap (λ (z : SeatData). z.object) only.same ∙ of.object;
+  plan = ap (λ (z : SeatData). z.view.plan) only.same
+      ∙ of.plan;
+}
+
+-- the change that won is in flight, and its version is one that the seat found before
+module _ {cell seen node : ℕ} {call : Call} (before announced exchanged : SeatData) (is : IsAnnounced Own node before announced)
+    (won : HasWon cell seen node call announced exchanged) where
+  pub won_flight : IsInFlight cell node exchanged.view
+  won_flight = subst (λ (z : View). IsInFlight cell node z) (sym won.won.wins.after)
+      (record { flies = λ e. let q : Waiting ≡ Grounded = e in cc; cell = refl; node = refl })
+
+  pub won_version : {version : ℕ} → HasBegun cell version seen before.view → FoundVersion cell version exchanged.view.writer.before
+  won_version {version} begun =
+      let more : List Counted = announce_step node before announced is ++ won.tries in
+      let none = won.retried.none_lost in
+      let trail : before.view.trail ++ more ≡ exchanged.view.writer.before =
+      sym (append_assoc before.view.trail (announce_step node before announced is) won.tries)
+      ∙ (ap (λ (t : List Counted). t ++ won.tries) (sym (ap (λ (z : SeatData). z.view.trail) is))
+      ∙ (sym won.retried.goes.trail ∙ ap (λ (z : View). z.writer.before) (sym won.won.wins.after))) in
+      subst (λ (l : List Counted). FoundVersion cell version l) trail (begun_found before.view more none begun)
+
+-- its refresh tried to clear the mark
+pub tries_mark : {cell node version : ℕ} {u w : SeatData} (answer : Refresh) → Refreshes cell node version answer u w → OnlyRefreshed u w
+    → TriesMark cell node version u w
+tries_mark answer refreshes only =
+    let m = marks_of answer refreshes in record { answer = answer; refreshes = refreshes; only = only; steps = m.steps; trail = m.trail; tries = m.tries }
+
 -- the seat stays of its object through an install
-pub installed_ours : {shared : ObjectData} {cell seen node : ℕ} {call : Call} {before after : SeatData} → HasInstalled cell seen node call before after → IsOf shared before → IsOf shared after
+pub installed_ours : {shared : ObjectData} {cell version seen node : ℕ} {call : Call} {before after : SeatData}
+    → HasInstalled cell version seen node call before after → IsOf shared before
+    → IsOf shared after
 installed_ours {cell = cell} {seen = seen} {node = node} {call = call} {before = before} {after = after} h of =
-    released_ours Own h.exchanged after h.ends (exchanged_ours cell seen node call h.announced h.exchanged Installed h.won (announced_ours node before h.announced h.announces of))
+    released_ours Own h.refreshed after h.ends (refreshed_ours h.exchanged h.refreshed h.marked.only
+    (exchanged_ours cell seen node call h.announced h.exchanged Installed h.won (announced_ours node before h.announced h.announces of)))
 
 -- every held node is free again
 pub has_moved : {cell seen word : ℕ} (node : ℕ) (before announced exchanged released after : SeatData) → IsAnnounced Own node before announced → Sound announced.view
@@ -213,7 +253,8 @@ module _ {cell seen node word : ℕ} {before after : SeatData} (m : HasMoved cel
 
 -- HOW A CALL THAT INSTALLED IS ANSWERED
 -- it came to `now` by these steps, installed its chain, and then cleared Walk and Back
-pub record EndsChange (shared : ObjectData) (cell seen node : ℕ) (call : Call) (steps : List Counted) (look : ℕ) (before now after walked final : SeatData) : Type 0 where
+pub record EndsChange (shared : ObjectData) (cell version seen node : ℕ) (call : Call) (steps : List Counted) (look : ℕ)
+    (before now after walked final : SeatData) : Type 0 where
   pub ready : IsReady shared before
   pub first : IsSeat before
   pub left : 0 < before.view.changes
@@ -221,35 +262,44 @@ pub record EndsChange (shared : ObjectData) (cell seen node : ℕ) (call : Call)
   pub keeps : (c : Contents) (held : Option (List ℕ)) → held_after c held call ≡ held
   pub calling : Calling cell steps look before now
   pub paced : Paces 0 1 steps
-  pub installed : HasInstalled cell seen node call now after
+  pub installed : HasInstalled cell version seen node call now after
+  pub loaded : HasVersion cell version steps
   pub walk : ClearsWalk after walked
   pub back : IsReleased Back walked final
   pub last : IsSeat final
 
-module _ {shared : ObjectData} {cell seen node : ℕ} {call : Call} {steps : List Counted} {look : ℕ} {before now after walked final : SeatData}
-    (e : EndsChange shared cell seen node call steps look before now after walked final) where
-  abbrev h : HasInstalled cell seen node call now after
+module _ {shared : ObjectData} {cell version seen node : ℕ} {call : Call} {steps : List Counted} {look : ℕ} {before now after walked final : SeatData}
+    (e : EndsChange shared cell version seen node call steps look before now after walked final) where
+  abbrev h : HasInstalled cell version seen node call now after
   h = e.installed
 
   abbrev walk_ends : EndsWalk after walked
   walk_ends = ends_walk after walked e.walk
 
+  abbrev marks : Marks cell node version h.exchanged h.refreshed
+  marks = marks_of h.marked.answer h.marked.refreshes
+
+  abbrev own_clear : List Counted
+  own_clear = clearing OWN h.refreshed
+
   abbrev clears : List Counted
-  clears = clearing OWN h.exchanged ++ (walk_ends.clears ++ clearing BACK walked)
+  clears = marks.steps ++ (own_clear ++ (walk_ends.clears ++ clearing BACK walked))
 
   abbrev before_exchange : List Counted
   before_exchange = steps ++ announce_step node now h.announced h.announces
 
   ends : EndsBy clears h.exchanged final
-  ends = ends_then (ends_one Own h.exchanged after (λ q. absurd (omega arith)) h.ends)
-      (ends_then walk_ends.ends (ends_one Back walked final (λ q. absurd (omega arith)) e.back))
+  ends = ends_then (ends_refresh marks h.marked.only) (ends_then (ends_one Own h.refreshed after (λ q. absurd (omega arith)) h.ends)
+      (ends_then walk_ends.ends (ends_one Back walked final (λ q. absurd (omega arith)) e.back)))
 
-  pub won_change : WonCall cell seen node call before_exchange clears look before h.announced h.exchanged final
+  pub won_change : WonCall cell version seen node call before_exchange clears look before h.announced h.exchanged final
   won_change = record {
     calling = calling_then e.calling (announce_goes node now h.announced h.announces h.sound cell) (announce_else node now h.announced h.announces HOLD (λ q. absurd (omega arith)));
     paced = paces_then e.paced (paces_still 1 (announce_step node now h.announced h.announces) refl);
     won = h.won;
     ended = ends;
+    loaded = version_more steps (announce_step node now h.announced h.announces) refl e.loaded;
+    tries = tries_more marks.steps (own_clear ++ (walk_ends.clears ++ clearing BACK walked)) marks.tries;
     first = e.first;
     last = e.last;
     idle = e.ready.idle;
@@ -264,7 +314,7 @@ module _ {shared : ObjectData} {cell seen node : ℕ} {call : Call} {steps : Lis
       (released_word Back walked final e.back)
       (ap (λ (y : Claim). y.word) (released_else Back walked final WALK e.back (λ q. absurd (omega arith))) ∙ walk_ends.none)
       (ap (λ (y : Claim). y.word) (released_else Back walked final OWN e.back (λ q. absurd (omega arith)) ∙ walk_ends.others OWN (λ q. absurd (omega arith)))
-      ∙ released_word Own h.exchanged after h.ends)
+      ∙ released_word Own h.refreshed after h.ends)
 
   -- what it spent
   pub change_scanned : scan_loads (all_steps won_change) ≡ scan_loads steps
@@ -273,12 +323,18 @@ module _ {shared : ObjectData} {cell seen node : ℕ} {call : Call} {steps : Lis
   pub change_tried : 0 < exchanges (all_steps won_change)
   change_tried = won_tried won_change
 
-  pub change_costs : {most : ℕ} → Costs 0 0 most steps → Costs 0 2 (most + 6) (all_steps won_change)
+  pub change_costs : {most : ℕ} → Costs 0 0 most steps → Costs 0 2 (most + 9 + NODE_WIDTH) (all_steps won_change)
   change_costs {most} costs =
       let first : List Counted = announce_step node now h.announced h.announces in
       let walk = walk_ends.few in
+      let marked = marks.few in
       costs_within (won_costs won_change (costs_then {most = most + 1} first costs refl refl (omega arith))) (omega arith) (omega arith)
-      (omega (arith, length-append (clearing OWN h.exchanged) (walk_ends.clears ++ clearing BACK walked), length-append walk_ends.clears (clearing BACK walked)))
+      (omega (
+        arith,
+        length-append marks.steps (own_clear ++ (walk_ends.clears ++ clearing BACK walked)),
+        length-append own_clear (walk_ends.clears ++ clearing BACK walked),
+        length-append walk_ends.clears (clearing BACK walked),
+      ))
 
   -- the cell had the claimed records at its place
   pub change_records : {n : ℕ} → On (claim_of BACK now.view) n → (claim_of BACK now.view).cell ≡ cell

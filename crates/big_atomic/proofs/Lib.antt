@@ -14,6 +14,7 @@ pub mod Goings
 pub mod Installed
 pub mod Jobs
 pub mod Lines
+pub mod Marking
 pub mod Missing
 pub mod Pacing
 pub mod Paid
@@ -26,4 +27,5 @@ pub mod SeatNumbers
 pub mod Sharing
 pub mod Shortage
 pub mod Unlike
+pub mod Versioned
 pub mod Winning

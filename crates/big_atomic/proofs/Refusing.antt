@@ -76,8 +76,8 @@ module _ {shared : ObjectData} {reg : ℕ} {old new : List ℕ} {b : Begun share
 
 -- a turn that lost no exchange is one that lost at most one
 module _ {shared : ObjectData} {reg : ℕ} {old new : List ℕ} {b : Begun shared reg new Yes (Swap reg old new)} {lost most : ℕ} {now : SeatData} (t : AtTurn b lost most now)
-    (low : lost ≤ 1) (few : most ≤ 2 * WIDTH + 12 + 4 * b.before.view.plan.seats) where
-  abbrev within : AtTurn b 1 (2 * WIDTH + 12 + 4 * b.before.view.plan.seats) now
+    (low : lost ≤ 1) (few : most ≤ 2 * WIDTH + 13 + 4 * b.before.view.plan.seats) where
+  abbrev within : AtTurn b 1 (2 * WIDTH + 13 + 4 * b.before.view.plan.seats) now
   within = record { past = past_within t.past low few; turn = t.turn }
 
   -- the record that was read is another one

@@ -7,6 +7,7 @@ use Rattle.big_atomic.proofs.Deciding.{HasRoomFor, past_ours, there_now}
 use Rattle.big_atomic.proofs.Ending.{released_else}
 use Rattle.big_atomic.proofs.Goings.{calling_then}
 use Rattle.big_atomic.proofs.Installed.{EndsChange, LostInstall, announce_else, change_costs, change_ready, change_scanned, change_tried, lost_install, no_lock, won_change}
+use Rattle.big_atomic.proofs.Marking.{turn_begun, turn_more}
 use Rattle.big_atomic.proofs.Pacing.{paces_then, paces_within}
 use Rattle.big_atomic.proofs.Paid.{costs_then, costs_within, exchanges-append, lost-append, scan_loads-append}
 use Rattle.big_atomic.proofs.Winning.{all_steps, has_won, won_reply, won_stays}
@@ -14,6 +15,7 @@ use Rattle.big_atomic.specs.Calling.{Calling, Costs, HoldsFilled, Paces}
 use Rattle.big_atomic.specs.Calls.{ScansForWant}
 use Rattle.big_atomic.specs.Giving.{Begun, HasLostTurn, HasTold, Past}
 use Rattle.big_atomic.specs.Installing.{HasInstalled, HasMoved, MayInstall}
+use Rattle.big_atomic.specs.Marks.{HasBegun, HasTurn}
 use Rattle.big_atomic.specs.Turns.{exchanges, scan_loads}
 use Rattle.hazard_claims.specs.Claiming.{IsReleased}
 use Rattle.hazard_claims.specs.declared.claims.Claim.TheVariants.{Back, Own}
@@ -45,8 +47,8 @@ use Rattle.step_rules.specs.declared.view.Held.{Held}
 use Rattle.step_rules.specs.declared.view.Stage.TheVariants.{Locked}
 use Rattle.step_rules.specs.declared.view.View.{View}
 
-module _ {shared : ObjectData} {reg : ℕ} {new : List ℕ} {done : Reply} {call : Call} {b : Begun shared reg new done call} {word seen node : ℕ} {u w : SeatData}
-    (r : HasRoomFor b word seen u) (f : HoldsFilled node new u w) (law : IsSeat w) where
+module _ {shared : ObjectData} {reg : ℕ} {new : List ℕ} {done : Reply} {call : Call} {b : Begun shared reg new done call} {version word seen node : ℕ} {u w : SeatData}
+    (r : HasRoomFor b version word seen u) (f : HoldsFilled node new u w) (law : IsSeat w) where
   -- THE NODE IS FILLED
   back : claim_of BACK w.view ≡ claim_of BACK u.view
   back = ap (λ (z : View). claim_of BACK z) f.view
@@ -130,11 +132,18 @@ module _ {shared : ObjectData} {reg : ℕ} {new : List ℕ} {done : Reply} {call
   calling : Calling reg steps b.look b.before w
   calling = calling_then r.past.calling (f.goes reg) (ap (λ (z : View). claim_of HOLD z) f.view)
 
+  -- its version was found in this turn
+  turn : HasTurn reg version word steps
+  turn = turn_more r.past.steps f.steps f.none_lost r.turn
+
+  pub give_begun : HasBegun reg version word w.view
+  give_begun = turn_begun b.before.view w.view b.began.ready.law.sound.trail.within (ap (λ (z : View). z.since) calling.goes.only) calling.goes.trail turn
+
   -- its claim still serves
   paced : Paces 0 1 steps
   paced = let none = f.none_claimed in let none_tried = f.looks.none_exchanged in paces_then {mid = 1} r.past.paced (record { rounds = omega arith; tries = omega arith })
 
-  spent : b.once ≡ true → Costs 0 0 (2 * WIDTH + 7 + 4 * b.before.view.plan.seats) steps
+  spent : b.once ≡ true → Costs 0 0 (2 * WIDTH + 8 + 4 * b.before.view.plan.seats) steps
   spent once = let few = f.few in costs_then f.steps (r.past.spent once) f.none_lost f.looks.none_exchanged (omega arith)
 
   -- a call that never changes anything doesn't come here
@@ -163,7 +172,7 @@ module _ {shared : ObjectData} {reg : ℕ} {new : List ℕ} {done : Reply} {call
         let stock = l.goes.stock in
         omega (arith, ap (length {A = ℕ}) held, ap (length {A = ℕ}) m.holding, ap (length {A = ℕ}) l.retired)
 
-    abbrev lost_past : Past b 1 (2 * WIDTH + 12 + 4 * b.before.view.plan.seats) after
+    abbrev lost_past : Past b 1 (2 * WIDTH + 13 + 4 * b.before.view.plan.seats) after
     lost_past = record {
       steps = lost_all;
       calling = calling_then calling l.goes (l.others HOLD (λ e. absurd (omega arith)));
@@ -208,15 +217,16 @@ module _ {shared : ObjectData} {reg : ℕ} {new : List ℕ} {done : Reply} {call
         }
 
   -- THE INSTALL WON
-  module _ {after final : SeatData} (i : HasInstalled reg word node call w after) (ends : IsReleased Back after final) (last : IsSeat final) where
+  module _ {after final : SeatData} (i : HasInstalled reg version word node call w after) (ends : IsReleased Back after final) (last : IsSeat final) where
     walk_none : (claim_of WALK after.view).word ≡ 0
     walk_none = ap (λ (y : Claim). y.word)
-        (released_else Own i.exchanged after WALK i.ends (λ e. absurd (omega arith))
+        (released_else Own i.refreshed after WALK i.ends (λ e. absurd (omega arith))
+        ∙ (ap (λ (z : SeatData). claim_of WALK z.view) i.marked.only.same
         ∙ (ap (λ (z : View). claim_of WALK z) i.won.won.wins.after
-        ∙ (ap (λ (z : View). claim_of WALK z) i.won.retried.view ∙ announce_else node w i.announced i.announces WALK (λ e. absurd (omega arith)))))
+        ∙ (ap (λ (z : View). claim_of WALK z) i.won.retried.view ∙ announce_else node w i.announced i.announces WALK (λ e. absurd (omega arith))))))
         ∙ (ap (λ (z : View). (claim_of WALK z).word) f.view ∙ r.past.walk)
 
-    abbrev e : EndsChange shared reg word node call steps b.look b.before w after after final
+    abbrev e : EndsChange shared reg version word node call steps b.look b.before w after after final
     e = record {
       ready = b.began.ready;
       first = b.began.ready.law;
@@ -226,6 +236,7 @@ module _ {shared : ObjectData} {reg : ℕ} {new : List ℕ} {done : Reply} {call
       calling = calling;
       paced = paced;
       installed = i;
+      loaded = turn.loaded;
       walk = inl (refl, walk_none);
       back = ends;
       last = last;

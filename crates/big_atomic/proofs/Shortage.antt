@@ -46,14 +46,15 @@ hold_word {before = before} {now = now} ready sound goes hold = ⊎_elim
     (cases_Bool (holds_record before.view))
 
 -- a call that is to change its register scanned in its first turn, and has no free node, of which it needs one
-pub record IsShort {shared : ObjectData} {reg : ℕ} {new : List ℕ} {done : Reply} {call : Call} (b : Begun shared reg new done call) (word : ℕ) (rec : List ℕ) (u w : SeatData) : Type 0 where
-  pub decided : HasDecided b word rec u
+pub record IsShort {shared : ObjectData} {reg : ℕ} {new : List ℕ} {done : Reply} {call : Call} (b : Begun shared reg new done call) (version word : ℕ)
+    (rec : List ℕ) (u w : SeatData) : Type 0 where
+  pub decided : HasDecided b version word rec u
   pub other : is_same rec new ≡ false
   pub room : HasRoom false u w
   pub law : IsSeat w
 
-module _ {shared : ObjectData} {reg : ℕ} {new : List ℕ} {done : Reply} {call : Call} {b : Begun shared reg new done call} {word : ℕ} {rec : List ℕ} {u w : SeatData} (s : IsShort b word rec u w) where
-  abbrev p : Past b 0 (WIDTH + 4) u
+module _ {shared : ObjectData} {reg : ℕ} {new : List ℕ} {done : Reply} {call : Call} {b : Begun shared reg new done call} {version word : ℕ} {rec : List ℕ} {u w : SeatData} (s : IsShort b version word rec u w) where
+  abbrev p : Past b 0 (WIDTH + 5) u
   p = s.decided.at.past
 
   pub scanned : (u.free ≡ []) × IsScan u w
@@ -208,7 +209,7 @@ module _ {shared : ObjectData} {reg : ℕ} {new : List ℕ} {done : Reply} {call
         );
         never = λ _. ap exchanges a.steps_are ∙ none_tried;
         spent = λ once.
-            let spent : Costs 0 0 (WIDTH + 5 + 4 * b.before.view.plan.seats) (p.steps ++ scan_steps) =
+            let spent : Costs 0 0 (WIDTH + 6 + 4 * b.before.view.plan.seats) (p.steps ++ scan_steps) =
             costs_then scan_steps (p.spent once) (scan_lost scan p.law s.law) (scan_tried scan p.law s.law) (omega (arith, scan_few scan p.law s.law)) in
             subst (λ (l : List Counted). Costs 1 2 (3 * NODE_WIDTH + 4 * b.before.view.plan.seats + 16) l) (sym a.steps_are)
             (costs_then {m = 3 * NODE_WIDTH + 4 * b.before.view.plan.seats + 15} clear (costs_within spent (omega arith) (omega arith) (omega arith)) refl refl (omega arith));

@@ -10,9 +10,11 @@ use Rattle.big_atomic.proofs.Answered.{HasAnswered, ready_after}
 use Rattle.big_atomic.proofs.Balance.{balance, removes_spent}
 use Rattle.big_atomic.proofs.Ending.{EndsBy}
 use Rattle.big_atomic.proofs.Goings.{calling_then, drop_parts, held_stays, looked_more}
+use Rattle.big_atomic.proofs.Marking.{version_more}
 use Rattle.big_atomic.proofs.Paid.{changes-append, exchanges-append, lost-append, paid_kept, paid_more, paid_still, paid_then, rounds-append, saw_within, scan_loads-append, still_exchanges, still_lost, still_rounds}
 use Rattle.big_atomic.specs.Calling.{Calling, HasWon, Costs, Paces}
 use Rattle.big_atomic.specs.Calls.{HoldStays}
+use Rattle.big_atomic.specs.Marks.{HasVersion, Tries}
 use Rattle.big_atomic.specs.Ready.{IsReady}
 use Rattle.big_atomic.specs.Turns.{TurnsArePaid, changes_on, claim_rounds, exchanges, is_exchange, is_lost, lost_steps, scan_loads}
 use Rattle.seat_history.proofs.Histories.{state_at-append}
@@ -41,12 +43,15 @@ use Rattle.step_rules.specs.declared.view.Kind.TheVariants.{BackupExchange}
 use Rattle.step_rules.specs.declared.view.Stand.{Stand}
 use Rattle.step_rules.specs.declared.view.View.{View}
 
--- a call on the cell k that `before` began and that `now` had come to when it tried its exchange, which won; then its claims were ended
-pub record WonCall (k word node : ℕ) (call : Call) (steps clears : List Counted) (look : ℕ) (before now after final : SeatData) : Type 0 where
+-- a call on the cell k that `before` began and that `now` had come to when it tried its exchange, which won; then it refreshed the cell by the
+-- version, and its claims were ended
+pub record WonCall (k version word node : ℕ) (call : Call) (steps clears : List Counted) (look : ℕ) (before now after final : SeatData) : Type 0 where
   pub calling : Calling k steps look before now
   pub paced : Paces 0 1 steps
   pub won : HasWon k word node call now after
   pub ended : EndsBy clears after final
+  pub loaded : HasVersion k version steps
+  pub tries : Tries k node version clears
   pub first : IsSeat before
   pub last : IsSeat final
   pub idle : before.holding ≡ []
@@ -71,7 +76,8 @@ exchanges_most (c ∷ a) = go (is_exchange c.kind) (exchanges_most a)
 found_kept : (k word node n : ℕ) → is_lost (counted (BackupExchange k word node) word n) ≡ false
 found_kept k word node n = ap not (eq-eqb (word / 2) (word / 2) refl)
 
-module _ {k word node : ℕ} {call : Call} {steps clears : List Counted} {look : ℕ} {before now after final : SeatData} (w : WonCall k word node call steps clears look before now after final) where
+module _ {k version word node : ℕ} {call : Call} {steps clears : List Counted} {look : ℕ} {before now after final : SeatData}
+    (w : WonCall k version word node call steps clears look before now after final) where
   abbrev mid : SeatData
   mid = w.won.mid
 
@@ -97,11 +103,14 @@ module _ {k word node : ℕ} {call : Call} {steps clears : List Counted} {look :
   calling = calling_then w.calling w.won.retried.goes (ap (λ (z : View). claim_of HOLD z) w.won.retried.view)
 
   final_view : final.view ≡ record (won_view k w.won.found node call log mid.view) {
+    seen = final.view.seen;
+    look = final.view.look;
     claims = final.view.claims;
     trail = (mid.view.trail ++ exchanged ∷ []) ++ clears;
     writer = final.view.writer;
   }
-  final_view = w.ended.view ∙ ap (λ (z : View). record z { claims = final.view.claims; trail = z.trail ++ clears; writer = final.view.writer }) w.won.won.wins.after
+  final_view = w.ended.view ∙ ap
+      (λ (z : View). record z { seen = final.view.seen; look = final.view.look; claims = final.view.claims; trail = z.trail ++ clears; writer = final.view.writer }) w.won.won.wins.after
 
   pub won_claims : (c : ℕ) → claim_of c after.view ≡ claim_of c now.view
   won_claims c = ap (λ (z : View). claim_of c z) w.won.won.wins.after ∙ ap (λ (z : View). claim_of c z) w.won.retried.view
@@ -115,11 +124,15 @@ module _ {k word node : ℕ} {call : Call} {steps clears : List Counted} {look :
   stands_are : final.view.stands ≡ before.view.stands ++ stand ∷ []
   stands_are = ap (λ (z : View). z.stands) final_view ∙ ap (λ (z : View). z.stands ++ stand ∷ []) calling.goes.only
 
-  seen_is : final.view.seen ≡ es
-  seen_is = ap (λ (z : View). z.seen) final_view
+  -- the history goes on from the call's entry
+  final_on : GoesOn es final.view.seen
+  final_on = subst (λ (l : List Entry). GoesOn l final.view.seen) (ap (λ (z : View). z.seen) w.won.won.wins.after) w.ended.seen
+
+  log_on : GoesOn log final.view.seen
+  log_on = (entry (number mid.view) call ∷ final_on.0, final_on.1 ∙ append_assoc log (entry (number mid.view) call ∷ []) final_on.0)
 
   on : GoesOn mid.view.seen final.view.seen
-  on = goes_further mid.view.seen log final.view.seen (entry (number mid.view) call ∷ []) mid_on seen_is
+  on = goes_further mid.view.seen log final.view.seen log_on.0 mid_on log_on.1
 
   seen_on : GoesOn before.view.seen final.view.seen
   seen_on = goes_further before.view.seen mid.view.seen final.view.seen on.0 calling.goes.seen on.1
@@ -151,7 +164,7 @@ module _ {k word node : ℕ} {call : Call} {steps clears : List Counted} {look :
 
   -- the contents at its place are those that it found
   won_state : state_at final.view.seen (length log) ≡ state_at log (length log)
-  won_state = ap (λ (l : List Entry). state_at l (length log)) seen_is ∙ state_at-append log (entry (number mid.view) call ∷ []) (length log) (omega arith)
+  won_state = ap (λ (l : List Entry). state_at l (length log)) log_on.1 ∙ state_at-append log log_on.0 (length log) (omega arith)
 
   -- which it changes
   pub won_changes : is_change (state_at log (length log)) call ≡ true
@@ -175,7 +188,7 @@ module _ {k word node : ℕ} {call : Call} {steps clears : List Counted} {look :
       let there : get_elem? mid.view.claims BACK ≡ some y = at_there mid.view.claims BACK (silent 0) (omega arith) in
       let told = calling.goes.sound.claims.told BACK n y there (inl refl) (subst (λ (z : Claim). On z n) (sym same) stands) in
       let plan : final.view.plan ≡ mid.view.plan = ap (λ (z : View). z.plan) final_view in
-      let place : take (length log) final.view.seen ≡ log = ap (take (length log)) seen_is ∙ take-append_seam log (entry (number mid.view) call ∷ []) in
+      let place : take (length log) final.view.seen ≡ log = ap (take (length log)) log_on.1 ∙ take-append_seam log log_on.0 in
       let longer : take y.at log ≡ take y.at mid.view.seen = ap (take y.at) mid_on.1 ∙ take-append-le y.at mid.view.seen mid_on.0 told.began in
       (λ i. records_at (plan i) (place i) k)
       ∙ (records_since mid.view.plan log y.at k (w.won.won.wins.calm y there)
@@ -229,10 +242,9 @@ module _ {k word node : ℕ} {call : Call} {steps clears : List Counted} {look :
   pub won_held : held_by final.view.seen (number final.view) final.view.stands ≡ held_by before.view.seen (number before.view) before.view.stands
   won_held =
       ap (λ (z : View). held_by z.seen (number z) z.stands) final_view
-      ∙ (held_next es (number mid.view) mid.view.stands stand refl
-      ∙ (w.keeps (state_at es (length log)) (held_by es (number mid.view) mid.view.stands)
-      ∙ (held_longer mid.view (mid_on.0 ++ entry (number mid.view) call ∷ []) es calling.goes.sound.lawful
-      (ap (λ (l : List Entry). l ++ entry (number mid.view) call ∷ []) mid_on.1 ∙ append_assoc mid.view.seen mid_on.0 (entry (number mid.view) call ∷ []))
+      ∙ (held_next final.view.seen (number mid.view) mid.view.stands stand refl
+      ∙ (w.keeps (state_at final.view.seen (length log)) (held_by final.view.seen (number mid.view) mid.view.stands)
+      ∙ (held_longer mid.view on.0 final.view.seen calling.goes.sound.lawful on.1
       ∙ held_stays w.first.sound calling.goes)))
 
   pub has_won : {told : Reply} → stand.reply ≡ told → HasAnswered k look call told all_steps stand before final
@@ -271,6 +283,17 @@ module _ {k word node : ℕ} {call : Call} {steps clears : List Counted} {look :
       few = few;
       rounds = rounds;
       tries = tries;
+      refreshed = λ _. record {
+        before = steps ++ w.won.tries;
+        word = w.won.found;
+        node = node;
+        saw = length es;
+        after = clears;
+        version = version;
+        whole = refl;
+        loaded = version_more steps w.won.tries w.won.retried.none_lost w.loaded;
+        tries = w.tries;
+      };
     };
     steps_are = refl;
     stand_is = refl;

@@ -1,6 +1,7 @@
 -- What a call knows between its steps.
 use Rattle.std.specs.Prelude.{◌≡◌, ◌≢◌, ℕ, ◌+◌, ◌-◌, ◌*◌, ◌/◌, ◌<◌, ◌≤◌, Bool, true, false, suc, zero, List, [], ◌∷◌, ◌++◌, Option, Some, None, ◌⊎◌, length, take, drop, unwrap_or, if◌then◌else◌}
 use Rattle.big_atomic.specs.Calls.{register_at}
+use Rattle.big_atomic.specs.Marks.{FoundWord, HasTurn}
 use Rattle.big_atomic.specs.Ready.{IsReady}
 use Rattle.big_atomic.specs.Turns.{TurnsArePaid, changes_on, claim_rounds, exchanges, last_look, lost_steps, scan_loads}
 use Rattle.hazard_claims.specs.Scanning.{IsScan}
@@ -136,9 +137,18 @@ HasClaimed c reg word before now = HasSeen c reg word 1 before now × HasClaim c
 abbrev pub HasClaimedRecord : ℕ → ℕ → ℕ → List ℕ → SeatData → SeatData → Type 0
 HasClaimedRecord c reg word rec before now = HasClaimed c reg word before now × (register_at now.view (length now.view.seen) reg ≡ rec)
 
+-- the cell's version was found before the node was claimed
+abbrev pub HasStarted : ℕ → ℕ → ℕ → SeatData → SeatData → Type 0
+HasStarted reg version word before now = (h : HasClaimed BACK reg word before now) × HasTurn reg version word h.0.steps
+
+-- and its record was read
+abbrev pub HasStartedRecord : ℕ → ℕ → ℕ → List ℕ → SeatData → SeatData → Type 0
+HasStartedRecord reg version word rec before now = (h : HasClaimedRecord BACK reg word rec before now) × HasTurn reg version word h.0.0.steps
+
 -- one look and one turn
 abbrev pub HasTried : ℕ → ℕ → Rechecked → SeatData → SeatData → Type 0
 HasTried c reg (Same word) before now = (s : HasSeen c reg word 1 before now) × (length s.steps ≡ 3) × (lost_steps s.steps ≡ 0) × HasClaim c reg word now
+    × FoundWord reg word s.steps
 HasTried c reg (Other word) before now = (s : HasSeen c reg word 0 before now) × (length s.steps ≡ 3) × (lost_steps s.steps ≤ 1) × (¬ NoneOn now.view.plan reg (drop s.look now.view.seen))
 
 -- a node's record was read

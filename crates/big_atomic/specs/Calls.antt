@@ -1,5 +1,6 @@
 -- What the calls on registers promise.
 use Rattle.std.specs.Prelude.{◌≡◌, ◌≢◌, ℕ, ◌+◌, ◌*◌, ◌<◌, ◌≤◌, ◌⊎◌, Bool, true, false, List, [], ◌∷◌, ◌++◌, None, length, filter, drop}
+use Rattle.big_atomic.specs.Marks.{IsRefreshed}
 use Rattle.big_atomic.specs.Turns.{TurnsArePaid, changes_on, claim_rounds, exchanges, lost_steps, scan_loads}
 use Rattle.big_atomic.specs.declared.answers.Stored.{Stored}
 use Rattle.big_atomic.specs.declared.answers.Stored.TheVariants.{Done as StoreDone, Full as StoreFull}
@@ -56,6 +57,8 @@ pub record Answered (k : ℕ) (asked : Call) (told : Reply) (before after : Seat
   -- and a further claim of the cell's node, and further exchanges, were made only after a lost step
   pub rounds : claim_rounds steps ≤ lost_steps steps + 1
   pub tries : exchanges steps ≤ 2 * (lost_steps steps + 1)
+  -- a change tried to clear the mark that it left on its cell
+  pub refreshed : stand.changes ≡ true → IsRefreshed k steps
 
 -- Full was answered: after a whole scan of this call fewer nodes are free than are needed. Retired are just those that were and that a word
 -- found names, and the stand keeps how many the seat had

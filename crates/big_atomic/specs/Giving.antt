@@ -2,6 +2,7 @@
 use Rattle.std.specs.Prelude.{◌≡◌, ℕ, ◌*◌, ◌+◌, ◌<◌, ◌≤◌, Bool, true, false, not, List, [], ◌∷◌, Option, length, drop, ◌⊎◌}
 use Rattle.big_atomic.specs.Calling.{AreLooks, Began, Calling, Costs, HasClaim, Paces}
 use Rattle.big_atomic.specs.Calls.{Answered, HoldStays, IsFullAnswer, ScansForWant, register_at}
+use Rattle.big_atomic.specs.Marks.{HasTurn}
 use Rattle.big_atomic.specs.Ready.{IsReady}
 use Rattle.big_atomic.specs.Turns.{exchanges, scan_loads}
 use Rattle.big_atomic.specs.declared.answers.Given.{Given as Answer}
@@ -83,21 +84,25 @@ pub record AtTurn {shared : ObjectData} {reg : ℕ} {new : List ℕ} {done : Rep
   pub past : Past b lost most now
   pub turn : OnlyLooked past.steps b.before now ⊎ ((0 < exchanges past.steps) × (0 < length now.free))
 
--- the node of the word is claimed
-pub record HasClaimedNode {shared : ObjectData} {reg : ℕ} {new : List ℕ} {done : Reply} {call : Call} (b : Begun shared reg new done call) (word : ℕ) (now : SeatData) : Type 0 where
-  pub at : AtTurn b 0 3 now
+-- the version was found, and then the node of the word was claimed
+pub record HasClaimedNode {shared : ObjectData} {reg : ℕ} {new : List ℕ} {done : Reply} {call : Call} (b : Begun shared reg new done call)
+    (version word : ℕ) (now : SeatData) : Type 0 where
+  pub at : AtTurn b 0 4 now
+  pub turn : HasTurn reg version word at.past.steps
   pub claim : HasClaim BACK reg word now
 
 -- and has the record, by which the call is to be decided
-pub record HasDecided {shared : ObjectData} {reg : ℕ} {new : List ℕ} {done : Reply} {call : Call} (b : Begun shared reg new done call) (word : ℕ) (rec : List ℕ) (now : SeatData) : Type 0 where
-  pub at : AtTurn b 0 (WIDTH + 4) now
+pub record HasDecided {shared : ObjectData} {reg : ℕ} {new : List ℕ} {done : Reply} {call : Call} (b : Begun shared reg new done call) (version word : ℕ)
+    (rec : List ℕ) (now : SeatData) : Type 0 where
+  pub at : AtTurn b 0 (WIDTH + 5) now
+  pub turn : HasTurn reg version word at.past.steps
   pub claim : HasClaim BACK reg word now
   pub there : register_at now.view (length now.view.seen) reg ≡ rec
   pub agrees : Agrees reg rec new done call
 
 -- its exchange was lost, and no claim serves any more: others changed the register since so much was seen, and its node is free again
 pub record HasLostTurn {shared : ObjectData} {reg : ℕ} {new : List ℕ} {done : Reply} {call : Call} (b : Begun shared reg new done call) (seen : ℕ) (now : SeatData) : Type 0 where
-  pub at : AtTurn b 1 (2 * WIDTH + 12 + 4 * b.before.view.plan.seats) now
+  pub at : AtTurn b 1 (2 * WIDTH + 13 + 4 * b.before.view.plan.seats) now
   pub tried : 0 < exchanges at.past.steps
   pub paced : Paces 0 0 at.past.steps
   pub changes : ((c : Contents) → is_change c call ≡ false) → ⊥
@@ -114,7 +119,7 @@ pub record IsUnlike (reg : ℕ) (old : List ℕ) (from : ℕ) (v : View) : Type 
 
 -- it is to be answered No: the register was another record than old at some place since its first look
 pub record HasOther {shared : ObjectData} {reg : ℕ} {new : List ℕ} {done : Reply} {call : Call} (b : Begun shared reg new done call) (old : List ℕ) (now : SeatData) : Type 0 where
-  pub at : AtTurn b 1 (2 * WIDTH + 12 + 4 * b.before.view.plan.seats) now
+  pub at : AtTurn b 1 (2 * WIDTH + 13 + 4 * b.before.view.plan.seats) now
   pub unlike : IsUnlike reg old b.look now.view
 
 -- it is answered so
@@ -130,16 +135,16 @@ pub record HasTold {shared : ObjectData} {reg : ℕ} {new : List ℕ} {done : Re
 
 -- how far a call has come
 pub data Stage : Type 0 where
-  Claimed : ℕ → Stage
-  Decided : ℕ → List ℕ → Stage
+  Claimed : ℕ → ℕ → Stage
+  Decided : ℕ → ℕ → List ℕ → Stage
   Lost : ℕ → Stage
   Unlike : List ℕ → Stage
   Told : Reply → Stage
 
 -- what is known there
 abbrev pub Knows : {shared : ObjectData} {reg : ℕ} {new : List ℕ} {done : Reply} {call : Call} → Begun shared reg new done call → Stage → SeatData → Type 0
-Knows b (Claimed word) now = HasClaimedNode b word now
-Knows b (Decided word rec) now = HasDecided b word rec now
+Knows b (Claimed version word) now = HasClaimedNode b version word now
+Knows b (Decided version word rec) now = HasDecided b version word rec now
 Knows b (Lost seen) now = HasLostTurn b seen now
 Knows b (Unlike old) now = HasOther b old now
 Knows b (Told reply) now = HasTold b reply now

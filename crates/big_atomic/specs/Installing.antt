@@ -1,8 +1,11 @@
 -- The last part of a change of any cell, and what becomes of it.
-use Rattle.std.specs.Prelude.{◌≡◌, ℕ, ◌+◌, ◌/◌, ◌≤◌, []}
+use Rattle.std.specs.Prelude.{◌≡◌, ℕ, ◌+◌, ◌/◌, ◌≤◌, List, [], ◌++◌}
 use Rattle.big_atomic.specs.Calling.{HasFound, HasLost, HasWon}
+use Rattle.big_atomic.specs.Marks.{Tries}
 use Rattle.big_atomic.specs.declared.answers.Install.{Install as Answer}
 use Rattle.big_atomic.specs.declared.answers.Install.TheVariants.{Installed, Moved}
+use Rattle.cache_copy.specs.Refreshing.{OnlyRefreshed, Refreshes}
+use Rattle.cache_copy.specs.declared.answers.Refresh.{Refresh}
 use Rattle.hazard_claims.specs.Claiming.{IsAnnounced}
 use Rattle.hazard_claims.specs.declared.claims.Claim.TheVariants.{Own}
 use Rattle.seat_history.specs.declared.call.Call.{Call}
@@ -13,6 +16,7 @@ use Rattle.step_rules.specs.SeatData.{SeatData}
 use Rattle.step_rules.specs.Sound.{Sound}
 use Rattle.step_rules.specs.Steps.{stepped}
 use Rattle.step_rules.specs.Views.{announced_view, cleared_view}
+use Rattle.step_rules.specs.declared.view.Counted.{Counted}
 use Rattle.step_rules.specs.declared.view.View.{View}
 
 -- the exchange of the cell from the word to the held node may be tried for the call, once the node is announced
@@ -31,14 +35,25 @@ abbrev pub Exchanged : ℕ → ℕ → ℕ → Call → Answer → SeatData → 
 Exchanged cell seen node call Installed before after = HasWon cell seen node call before after
 Exchanged cell seen node call (Moved word) before after = HasLost cell seen word before after
 
--- the node was announced, its exchange won, and the Own claim was ended: the call is the last of the history
-pub record HasInstalled (cell seen node : ℕ) (call : Call) (before after : SeatData) : Type 0 where
+-- the cell's inline words were refreshed by the version as far as may be: these steps tried to clear the mark
+pub record TriesMark (cell node version : ℕ) (before after : SeatData) : Type 0 where
+  pub answer : Refresh
+  pub refreshes : Refreshes cell node version answer before after
+  pub only : OnlyRefreshed before after
+  pub steps : List Counted
+  pub trail : after.view.trail ≡ before.view.trail ++ steps
+  pub tries : Tries cell node version steps
+
+-- the node was announced, its exchange won, the cell was refreshed, and the Own claim was ended: the call is the entry at its stand's place
+pub record HasInstalled (cell version seen node : ℕ) (call : Call) (before after : SeatData) : Type 0 where
   pub announced : SeatData
   pub exchanged : SeatData
+  pub refreshed : SeatData
   pub announces : IsAnnounced Own node before announced
   pub sound : Sound announced.view
   pub won : HasWon cell seen node call announced exchanged
-  pub ends : after ≡ stepped (cleared_view OWN exchanged.view) exchanged
+  pub marked : TriesMark cell node version exchanged refreshed
+  pub ends : after ≡ stepped (cleared_view OWN refreshed.view) refreshed
 
 -- the node was announced, the exchange found a word with another node, and the Own claim was ended; every node that was held is free again
 pub record HasMoved (cell seen node word : ℕ) (before after : SeatData) : Type 0 where
@@ -52,6 +67,6 @@ pub record HasMoved (cell seen node word : ℕ) (before after : SeatData) : Type
   pub ends : after ≡ record (stepped (cleared_view OWN exchanged.view) exchanged) { free = after.free; holding = after.holding }
 
 -- Installed exactly where the exchange won, and Moved exactly where it found another node
-abbrev pub Installs : ℕ → ℕ → ℕ → Call → Answer → SeatData → SeatData → Type 0
-Installs cell seen node call Installed before after = HasInstalled cell seen node call before after
-Installs cell seen node call (Moved word) before after = HasMoved cell seen node word before after
+abbrev pub Installs : ℕ → ℕ → ℕ → ℕ → Call → Answer → SeatData → SeatData → Type 0
+Installs cell version seen node call Installed before after = HasInstalled cell version seen node call before after
+Installs cell version seen node call (Moved word) before after = HasMoved cell seen node word before after

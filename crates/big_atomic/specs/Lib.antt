@@ -3,6 +3,7 @@ pub mod Calls
 pub mod Giving
 pub mod Installing
 pub mod Lines
+pub mod Marks
 pub mod Ready
 pub mod Registers
 pub mod Seats

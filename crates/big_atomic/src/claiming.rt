@@ -68,7 +68,8 @@ pub(crate) fn try_claim(shared: &Shared, seat: &mut Seat, claim: Claim, reg: u32
     claim_once(shared, seat, claim, reg, seen)
 }
 
-fn look_first(shared: &Shared, seat: &mut Seat, reg: u32) -> u64
+/// Looks at a register.
+pub(crate) fn look_first(shared: &Shared, seat: &mut Seat, reg: u32) -> u64
     requires ours { IsOf shared.now seat.old }
     requires there { reg < cells shared.now.plan }
     requires law { IsSeat seat.old }
@@ -78,8 +79,14 @@ fn look_first(shared: &Shared, seat: &mut Seat, reg: u32) -> u64
     backup_load(shared, seat, reg)
 }
 
-// Announces the node of the word that was found last, and looks again.
-fn claim_once(shared: &Shared, seat: &mut Seat, claim: Claim, reg: u32, seen: u64) -> Recheck
+/// Announces the node of the word that was found last, and looks again.
+pub(crate) fn claim_once(
+    shared: &Shared,
+    seat: &mut Seat,
+    claim: Claim,
+    reg: u32,
+    seen: u64,
+) -> Recheck
     requires ours { IsOf shared.now seat.old }
     requires there { reg < cells shared.now.plan }
     requires tells { Tells (claim_number claim) }

@@ -5,8 +5,8 @@ ghost use Rattle.big_atomic.specs.Giving.{Begun, Decided, Knows, stage_of};
 use crate::answering::answer_now;
 use crate::answers::{Given, Install};
 use crate::changing::{fill_node, make_room};
-use crate::claiming::Image;
 use crate::installs::install;
+use crate::starting::Turn;
 use hazard_claims::{Claim, release};
 use seat_history::{Call, Rec, Reply};
 use step_rules::{Seat, Shared};
@@ -18,15 +18,15 @@ pub(crate) fn give(
     shared: &Shared,
     seat: &mut Seat,
     reg: u32,
-    found: Image,
+    turn: Turn,
     new: Rec,
     call: Call,
     done: Reply,
 ) -> Given
-    requires past { (b : Begun shared.now reg new done call) × Knows b (Decided found.word found.rec) seat.old }
-    ensures given { (b : Begun shared.now reg new done call) → Knows b (Decided found.word found.rec) seat.old → Knows b (stage_of done result (length seat.old.view.seen)) seat.new }
+    requires past { (b : Begun shared.now reg new done call) × Knows b (Decided turn.version turn.word turn.rec) seat.old }
+    ensures given { (b : Begun shared.now reg new done call) → Knows b (Decided turn.version turn.word turn.rec) seat.old → Knows b (stage_of done result (length seat.old.view.seen)) seat.new }
 {
-    if found.rec == new {
+    if turn.rec == new {
         answer_now(shared, seat, call, done);
         return Given::Done;
     }
@@ -35,7 +35,7 @@ pub(crate) fn give(
         return Given::Full;
     }
     let node = fill_node(shared, seat, new);
-    let Install::Installed = install(shared, seat, reg, found.word, node, call) else {
+    let Install::Installed = install(shared, seat, reg, turn.version, turn.word, node, call) else {
         return Given::Moved;
     };
     release(shared, seat, Claim::Back);

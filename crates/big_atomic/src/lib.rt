@@ -11,6 +11,7 @@ mod installs;
 mod laws;
 mod loads;
 mod seats;
+mod starting;
 mod stores;
 mod swaps;
 #[cfg(test)]
@@ -27,6 +28,7 @@ pub use laws::{
 };
 pub use loads::load;
 pub use seats::{join_all, split_all};
+pub use starting::{Start, claim_versioned};
 pub use stores::store;
 pub use swaps::compare_and_swap;
 // All that a user needs beside the calls.

@@ -3,9 +3,8 @@ ghost use Rattle.big_atomic.specs.Calls.{IsStored};
 ghost use Rattle.big_atomic.specs.Ready.{IsReady};
 
 use crate::answers::{Given, Stored};
-use crate::claiming::claim_record;
 use crate::gives::give;
-use hazard_claims::Claim;
+use crate::starting::begin_turn;
 use seat_history::{Call, Rec, Reply};
 use step_rules::{Seat, Shared};
 
@@ -20,13 +19,13 @@ pub fn store(shared: &Shared, seat: &mut Seat, reg: u32, new: Rec) -> Stored
     ensures stored { IsStored reg new result seat.old seat.new }
 {
     let call = Call::Store { reg, new };
-    let mut found = claim_record(shared, seat, Claim::Back, reg);
+    let mut turn = begin_turn(shared, seat, reg);
     'turns: loop {
-        match give(shared, seat, reg, found, new, call, Reply::Done) {
+        match give(shared, seat, reg, turn, new, call, Reply::Done) {
             Given::Done => return Stored::Done,
             Given::Full => return Stored::Full { need: 1, free: 0 },
             Given::Moved => {}
         }
-        found = claim_record(shared, seat, Claim::Back, reg);
+        turn = begin_turn(shared, seat, reg);
     }
 }

@@ -7,8 +7,10 @@ ghost use Rattle.seat_history.specs.declared.call.Call.TheVariants.{Swap as Swap
 ghost use Rattle.seat_history.specs.declared.reply.Reply.TheVariants.{Yes as YesReply};
 
 use crate::answers::{Given, Swap};
-use crate::claiming::{Image, read_record, try_claim};
+use crate::claiming::{read_record, try_claim};
 use crate::gives::give;
+use crate::starting::{Start, Turn};
+use cache_copy::begin;
 use hazard_claims::{Claim, Recheck, release};
 use seat_history::{Call, Rec, Reply};
 use std::marker::Brand;
@@ -25,8 +27,12 @@ pub fn compare_and_swap(shared: &Shared, seat: &mut Seat, reg: u32, old: Rec, ne
     ensures ready { IsReady shared.now seat.new }
     ensures swapped { IsSwapped reg old new result seat.old seat.new }
 {
+    let version = begin(shared, seat, reg);
     match try_claim(shared, seat, Claim::Back, reg) {
-        Recheck::Same(word) => swap_claimed::<Brand>(shared, seat, reg, word, old, new),
+        Recheck::Same(word) => {
+            let start = Start { version, word };
+            swap_claimed::<Brand>(shared, seat, reg, start, old, new)
+        }
         Recheck::Other(_) => {
             refuse::<Brand>(shared, seat, reg, old, new);
             Swap::No
@@ -34,27 +40,31 @@ pub fn compare_and_swap(shared: &Shared, seat: &mut Seat, reg: u32, old: Rec, ne
     }
 }
 
-// The call goes on after its look, whose place `P` names, once the node of the word is claimed.
+// The call goes on after its look, whose place `P` names, once the node of its start is claimed.
 fn swap_claimed<P: Place>(
     shared: &Shared,
     seat: &mut Seat,
     reg: u32,
-    word: u64,
+    start: Start,
     old: Rec,
     new: Rec,
 ) -> Swap
-    requires past { (b : Begun shared.now reg new YesReply (SwapCall reg old new)) × IsOnce P.place b × Knows b (Claimed word) seat.old }
-    ensures ends { (b : Begun shared.now reg new YesReply (SwapCall reg old new)) → IsOnce P.place b → Knows b (Claimed word) seat.old
+    requires past { (b : Begun shared.now reg new YesReply (SwapCall reg old new)) × IsOnce P.place b × Knows b (Claimed start.version start.word) seat.old }
+    ensures ends { (b : Begun shared.now reg new YesReply (SwapCall reg old new)) → IsOnce P.place b → Knows b (Claimed start.version start.word) seat.old
         → IsSwapped reg old new result b.before seat.new × IsReady shared.now seat.new }
 {
-    let rec = read_record(shared, seat, (word / 2) as u32);
+    let rec = read_record(shared, seat, (start.word / 2) as u32);
     if rec != old {
         refuse::<P>(shared, seat, reg, old, new);
         return Swap::No;
     }
-    let found = Image { word, rec };
+    let turn = Turn {
+        version: start.version,
+        word: start.word,
+        rec,
+    };
     let call = Call::Swap { reg, old, new };
-    match give(shared, seat, reg, found, new, call, Reply::Yes) {
+    match give(shared, seat, reg, turn, new, call, Reply::Yes) {
         Given::Done => Swap::Yes,
         Given::Full => Swap::Full { need: 1, free: 0 },
         Given::Moved => {

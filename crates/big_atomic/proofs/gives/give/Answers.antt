@@ -2,7 +2,7 @@ use Rattle.std.proofs.Common.{◌∙◌, sym}
 use Rattle.big_atomic.proofs.Answered.{may_answer}
 use Rattle.big_atomic.proofs.Deciding.{end_there, past_ours, room_for, told_there}
 use Rattle.big_atomic.proofs.Installed.{installed_ours}
-use Rattle.big_atomic.proofs.Renewing.{give_front, give_may, give_noted, give_ours, give_unlocked, lost_turn, won_told}
+use Rattle.big_atomic.proofs.Renewing.{give_begun, give_front, give_may, give_noted, give_ours, give_unlocked, lost_turn, won_told}
 use Rattle.big_atomic.proofs.Shortage.{short_end, short_told}
 use Rattle.big_atomic.proofs.gives.give.Goals as goal
 
@@ -45,6 +45,11 @@ install-requires-clause-front c = give_front (room_for c.requires.past.1 (sym c.
 
 pub install-requires-clause-noted : goal.install-requires-clause-noted
 install-requires-clause-noted c = give_noted (room_for c.requires.past.1 (sym c.eq.ensures ∙ c.if-eq.false) c.if-not-make_room.ensures.room c.make_room.ensures.law)
+    c.fill_node-node.ensures.filled c.fill_node-node.ensures.law
+
+pub install-requires-clause-begun : goal.install-requires-clause-begun
+install-requires-clause-begun c = give_begun
+    (room_for c.requires.past.1 (sym c.eq.ensures ∙ c.if-eq.false) c.if-not-make_room.ensures.room c.make_room.ensures.law)
     c.fill_node-node.ensures.filled c.fill_node-node.ensures.law
 
 pub install-requires-clause-unlocked : goal.install-requires-clause-unlocked

@@ -1,5 +1,5 @@
 use Rattle.big_atomic.proofs.Ending.{released_ours, released_stands}
-use Rattle.big_atomic.proofs.Installed.{announced_ours, exchange_unlocked, exchanged_ours, front_announced, has_moved, may_announce_front, may_announced, near_announced, noted_announced}
+use Rattle.big_atomic.proofs.Installed.{announced_ours, exchange_unlocked, exchanged_ours, front_announced, has_moved, may_announce_front, may_announced, near_announced, noted_announced, refreshed_ours, tries_mark, won_flight, won_version}
 use Rattle.hazard_claims.specs.declared.claims.Claim.TheVariants.{Own}
 use Rattle.big_atomic.proofs.installs.install.Goals as goal
 
@@ -22,8 +22,41 @@ exchange-answer-requires-clause-noted c = noted_announced c.args.node c.args.sea
 pub exchange-answer-requires-clause-found : goal.exchange-answer-requires-clause-found
 exchange-answer-requires-clause-found c = near_announced c.args.node c.args.seat.now c.announce.new.seat c.announce.ensures.announced c.requires.found
 
+-- the change that won is refreshed
+pub refresh-requires : goal.refresh-requires
+refresh-requires c = record {
+  ours = exchanged_ours c.args.cell c.args.seen c.args.node c.args.call c.announce.new.seat c.exchange-answer.new.seat c.exchange-answer.result c.exchange-answer.ensures.exchanged
+      (announced_ours c.args.node c.args.seat.now c.announce.new.seat c.announce.ensures.announced c.requires.ours);
+  flight = won_flight c.args.seat.now c.announce.new.seat c.exchange-answer.new.seat c.announce.ensures.announced c.in_default.ensures.exchanged;
+  found = won_version c.args.seat.now c.announce.new.seat c.exchange-answer.new.seat c.announce.ensures.announced c.in_default.ensures.exchanged c.requires.begun;
+}
+
 pub release-requires : goal.release-requires
 release-requires c = record {
+  ours = refreshed_ours c.exchange-answer.new.seat c.refresh.new.seat c.refresh.ensures.only
+      (exchanged_ours c.args.cell c.args.seen c.args.node c.args.call c.announce.new.seat
+      c.exchange-answer.new.seat c.exchange-answer.result c.exchange-answer.ensures.exchanged
+      (announced_ours c.args.node c.args.seat.now c.announce.new.seat c.announce.ensures.announced c.requires.ours));
+  unlocked = λ _. c.refresh.ensures.only.unlocked
+      (exchange_unlocked c.args.cell c.args.seen c.args.node c.args.call c.exchange-answer.result c.args.seat.now c.announce.new.seat
+      c.exchange-answer.new.seat c.announce.ensures.announced c.exchange-answer.ensures.exchanged);
+}
+
+pub returns-in_default-clause-installs : goal.returns-in_default-clause-installs
+returns-in_default-clause-installs c = record {
+  announced = c.announce.new.seat;
+  exchanged = c.exchange-answer.new.seat;
+  refreshed = c.refresh.new.seat;
+  announces = c.announce.ensures.announced;
+  sound = c.announce.ensures.law.sound;
+  won = c.in_default.ensures.exchanged;
+  marked = tries_mark c.refresh.result c.refresh.ensures.answer c.refresh.ensures.only;
+  ends = c.release.ensures.released;
+}
+
+-- the exchange was lost
+pub release-requires-2 : goal.release-requires-2
+release-requires-2 c = record {
   ours = exchanged_ours c.args.cell c.args.seen c.args.node c.args.call c.announce.new.seat c.exchange-answer.new.seat c.exchange-answer.result c.exchange-answer.ensures.exchanged
       (announced_ours c.args.node c.args.seat.now c.announce.new.seat c.announce.ensures.announced c.requires.ours);
   unlocked = λ _. exchange_unlocked c.args.cell c.args.seen c.args.node c.args.call c.exchange-answer.result c.args.seat.now c.announce.new.seat c.exchange-answer.new.seat
@@ -34,22 +67,12 @@ release-requires c = record {
 pub put_back_all-requires-clause-ours : goal.put_back_all-requires-clause-ours
 put_back_all-requires-clause-ours c =
     let announced = announced_ours c.args.node c.args.seat.now c.announce.new.seat c.announce.ensures.announced c.requires.ours in
-    released_ours Own c.exchange-answer.new.seat c.release.new.seat c.release.ensures.released
+    released_ours Own c.exchange-answer.new.seat c.release-2.new.seat c.release-2.ensures.released
     (exchanged_ours c.args.cell c.args.seen c.args.node c.args.call c.announce.new.seat c.exchange-answer.new.seat c.exchange-answer.result c.exchange-answer.ensures.exchanged announced)
 
 pub put_back_all-requires-clause-unannounced : goal.put_back_all-requires-clause-unannounced
-put_back_all-requires-clause-unannounced c n held y at = released_stands Own c.exchange-answer.new.seat c.release.new.seat n y c.release.ensures.released at
+put_back_all-requires-clause-unannounced c n held y at = released_stands Own c.exchange-answer.new.seat c.release-2.new.seat n y c.release-2.ensures.released at
 
 pub returns-clause-installs : goal.returns-clause-installs
-returns-clause-installs c = has_moved c.args.node c.args.seat.now c.announce.new.seat c.exchange-answer.new.seat c.release.new.seat c.put_back_all.new.seat
-    c.announce.ensures.announced c.announce.ensures.law.sound c.in-Moved.ensures.exchanged c.release.ensures.released c.put_back_all.ensures.free
-
-pub returns-in_default-clause-installs : goal.returns-in_default-clause-installs
-returns-in_default-clause-installs c = record {
-  announced = c.announce.new.seat;
-  exchanged = c.exchange-answer.new.seat;
-  announces = c.announce.ensures.announced;
-  sound = c.announce.ensures.law.sound;
-  won = c.in_default.ensures.exchanged;
-  ends = c.release.ensures.released;
-}
+returns-clause-installs c = has_moved c.args.node c.args.seat.now c.announce.new.seat c.exchange-answer.new.seat c.release-2.new.seat c.put_back_all.new.seat
+    c.announce.ensures.announced c.announce.ensures.law.sound c.in-Moved.ensures.exchanged c.release-2.ensures.released c.put_back_all.ensures.free

@@ -8,7 +8,8 @@ use Rattle.step_rules.specs.declared.view.View.{View}
 use Rattle.big_atomic.proofs.stores.store.Goals as goal
 
 pub turns-init : goal.turns-init
-turns-init c = store_starts (begins c.requires.ready c.requires.there c.requires.left) (search rules) c.claim_record-found.ensures.claimed c.claim_record-found.ensures.law
+turns-init c = store_starts (begins c.requires.ready c.requires.there c.requires.left)
+    (search rules) c.begin_turn-turn.ensures.started c.begin_turn-turn.ensures.law
 
 pub returns-in-Done : goal.returns-in-Done
 returns-in-Done c =
@@ -23,16 +24,16 @@ returns-in-Full c =
     record { ready = s.1; stored = subst (λ (z : SeatData). IsStored c.args.reg c.args.new (StoreFull 1 0) z c.give.new.seat) i.1 s.0 }
 
 -- another turn
-pub claim_record-found-requires-in-turns-clause-ours : goal.claim_record-found-requires-in-turns-clause-ours
-claim_record-found-requires-in-turns-clause-ours c = let i = c.turns.invariant in past_ours (c.in-Moved.ensures.given i.0 i.3).at.past
+pub begin_turn-turn-requires-in-turns-clause-ours : goal.begin_turn-turn-requires-in-turns-clause-ours
+begin_turn-turn-requires-in-turns-clause-ours c = let i = c.turns.invariant in past_ours (c.in-Moved.ensures.given i.0 i.3).at.past
 
 pub turns-preserved : goal.turns-preserved
 turns-preserved c =
     let i = c.turns.invariant in
-    (i.0, i.1, i.2, store_again (c.in-Moved.ensures.given i.0 i.3) i.2 c.claim_record-found-in-turns.ensures.claimed c.claim_record-found-in-turns.ensures.law)
+    (i.0, i.1, i.2, store_again (c.in-Moved.ensures.given i.0 i.3) i.2 c.begin_turn-turn-in-turns.ensures.started c.begin_turn-turn-in-turns.ensures.law)
 
 pub turns-smaller : goal.turns-smaller
 turns-smaller c =
     let i = c.turns.invariant in
-    turn_smaller (c.in-Moved.ensures.given i.0 i.3) i.2 c.claim_record-found-in-turns.ensures.claimed c.claim_record-found-in-turns.ensures.law c.turns.seat.view
+    turn_smaller (c.in-Moved.ensures.given i.0 i.3) i.2 c.begin_turn-turn-in-turns.ensures.started c.begin_turn-turn-in-turns.ensures.law c.turns.seat.view
     (ap (λ (z : View). z.plan) i.3.at.past.calling.goes.only) refl

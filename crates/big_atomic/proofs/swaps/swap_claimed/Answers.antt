@@ -9,13 +9,15 @@ use Rattle.seat_history.specs.Step.{is_same}
 use Rattle.step_rules.specs.Claims.{BACK}
 use Rattle.big_atomic.proofs.swaps.swap_claimed.Goals as goal
 
-pub overflow_cast-word : goal.overflow_cast-word
-overflow_cast-word g c = let h = c.requires.past.2 in omega (arith, node_fits c.args.reg c.args.word c.args.seat.now.view h.at.past.law.sound h.claim.found)
+pub overflow_cast-start : goal.overflow_cast-start
+overflow_cast-start g c =
+    let h = c.requires.past.2 in
+    omega (arith, node_fits c.args.reg c.args.start.word c.args.seat.now.view h.at.past.law.sound h.claim.found)
 
 pub read_record-rec-requires : goal.read_record-rec-requires
 read_record-rec-requires g c =
     let h = c.requires.past.2 in
-    record { ours = past_ours h.at.past; known = may_load BACK (c.args.word / 2) c.args.seat.now h.at.past.law.sound (omega arith) h.claim.stands }
+    record { ours = past_ours h.at.past; known = may_load BACK (c.args.start.word / 2) c.args.seat.now h.at.past.law.sound (omega arith) h.claim.stands }
 
 -- another record is there
 pub refuse-requires : goal.refuse-requires
