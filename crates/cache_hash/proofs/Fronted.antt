@@ -4,11 +4,11 @@ use lib.ListN.{get_elem?}
 use Rattle.big_atomic.proofs.Claimed.{loads_still, loads_unscanned, looks_then, lost_longer}
 use Rattle.big_atomic.proofs.Goings.{goes_none, goes_still, goes_then}
 use Rattle.big_atomic.proofs.Pacing.{paces_still, paces_then}
-use Rattle.big_atomic.proofs.Paid.{AreStill, scan_loads-append, still-append, still_exchanges}
+use Rattle.big_atomic.proofs.Paid.{AreStill, lost-append, scan_loads-append, still-append, still_exchanges, still_lost}
 use Rattle.big_atomic.proofs.Preparing.{stores_still, stores_unscanned}
 use Rattle.big_atomic.specs.Calling.{AreLooks, Goes, OnlySteps, Paces}
 use Rattle.big_atomic.specs.Installing.{HasNear, MayInstall}
-use Rattle.big_atomic.specs.Turns.{scan_loads}
+use Rattle.big_atomic.specs.Turns.{lost_steps, scan_loads}
 use Rattle.cache_hash.proofs.Walking.{link_passed, strayed_lost}
 use Rattle.chain_links.proofs.Doing.{only_back, only_filled, only_noted, only_passed, only_read, only_taken}
 use Rattle.chain_links.specs.Copying.{HoldsCopy, front_steps, put_steps}
@@ -58,6 +58,7 @@ pub record CopiesOn (cell word : ℕ) (old now : SeatData) : Type 0 where
   pub goes : Goes cell (Some (length old.view.seen)) steps old now
   pub looks : AreLooks steps
   pub paced : Paces 1 1 steps
+  pub kept : lost_steps steps ≡ 0
   pub near : HasNear cell word now.view
 
 only_words : {cell word : ℕ} {steps : List Counted} {old now : SeatData} → HasNear cell word old.view → OnlyWords steps old now → CopiesOn cell word old now
@@ -74,6 +75,7 @@ only_words {cell} {word} {steps} {old} {now} n w =
           w.still w.object w.first same_stock w.sound;
       looks = record { none_exchanged = still_exchanges steps w.still; none_scanned = w.unscanned };
       paced = paces_still 1 steps w.still;
+      kept = still_lost steps w.still;
       near = subst (λ (z : View). HasNear cell word z) (sym w.view) (record { word = n.word; found = n.found; near = n.near; fell = n.fell });
     }
 
@@ -94,7 +96,14 @@ part_on {cell} seen (passes page) {old = old} {now = now} same sound b n h last 
     let p = link_passed cell seen page old now sound b h in
     let low = p.fell n.word n.found in
     let fell = n.fell in
-    record { steps = p.steps; goes = p.part.goes; looks = p.part.looks; paced = p.part.paced; near = record { word = p.word; found = p.found; near = p.near ∙ sym same; fell = omega arith } }
+    record {
+      steps = p.steps;
+      goes = p.part.goes;
+      looks = p.part.looks;
+      paced = p.part.paced;
+      kept = p.kept;
+      near = record { word = p.word; found = p.found; near = p.near ∙ sym same; fell = omega arith };
+    }
 part_on {cell} {word} seen (notes link) {old = old} same sound b n is last = subst (λ (z : SeatData). CopiesOn cell word old z) (sym is) (only_words n (record {
   still = refl;
   unscanned = refl;
@@ -135,13 +144,27 @@ part_only cell seen (fills held) sound f = only_filled f
 parts_on : {cell word : ℕ} (seen : ℕ) (parts : List Part) {old now : SeatData} → word / 2 ≡ seen / 2 → Sound old.view → HasBack cell old.view → HasNear cell word old.view
     → HasDone cell seen parts old now → CopiesOn cell word old now
 parts_on {cell} {word} seen [] {old = old} same sound b n is = subst (λ (z : SeatData). CopiesOn cell word old z) (sym is)
-    (record { steps = []; goes = goes_none cell old sound; looks = record { none_exchanged = refl; none_scanned = refl }; paced = paces_still 1 [] refl; near = n })
+    (record {
+      steps = [];
+      goes = goes_none cell old sound;
+      looks = record { none_exchanged = refl; none_scanned = refl };
+      paced = paces_still 1 [] refl;
+      kept = refl;
+      near = n;
+    })
 parts_on {cell} seen (part ∷ parts) same sound b n d =
     let p = part_on seen part same sound b n d.1 d.2 in
     let back = only_back (part_only cell seen part sound d.1) in
     let still : HasBack cell d.0.view = record { node = b.node; stands = subst (λ (x : Claim). On x b.node) (sym back) b.stands; cell_is = ap (λ (x : Claim). x.cell) back ∙ b.cell_is } in
     let q = parts_on seen parts same d.2 still p.near d.3 in
-    record { steps = p.steps ++ q.steps; goes = goes_then p.goes q.goes; looks = looks_then p.steps q.steps p.looks q.looks; paced = paces_then p.paced q.paced; near = q.near }
+    record {
+      steps = p.steps ++ q.steps;
+      goes = goes_then p.goes q.goes;
+      looks = looks_then p.steps q.steps p.looks q.looks;
+      paced = paces_then p.paced q.paced;
+      kept = let kept = p.kept in let kept_then = q.kept in omega (arith, lost-append p.steps q.steps);
+      near = q.near;
+    }
 
 -- THE FRONT IS COPIED
 -- what a turn knows where its call would change the claimed records
@@ -155,6 +178,7 @@ pub record HasPrepared (cell word node : ℕ) (call : Call) (steps : List Counte
   pub goes : Goes cell (Some (length mid.view.seen)) steps mid copied
   pub looks : AreLooks steps
   pub paced : Paces 1 1 steps
+  pub kept : lost_steps steps ≡ 0
   pub claims : (c : ℕ) → c ≢ WALK → claim_of c copied.view ≡ claim_of c mid.view
   pub retired : copied.view.retired ≡ mid.view.retired
   pub near : HasNear cell word copied.view
@@ -200,6 +224,7 @@ module _ {cell word : ℕ} {call : Call} {mid copied : SeatData} (m : MayPrepare
       goes = c.goes;
       looks = c.looks;
       paced = c.paced;
+      kept = c.kept;
       claims = o.claims;
       retired = o.retired;
       near = c.near;

@@ -1,14 +1,17 @@
 -- How a change is made: the front is copied and installed.
-use Rattle.std.proofs.Common.{◌≡◌, ◌≢◌, ◌∙◌, ℕ, ◌+◌, ◌*◌, ◌/◌, ◌<◌, ◌≤◌, suc, Bool, true, false, ne_eqb, List, [], ◌∷◌, ◌++◌, length, take, drop, refl, sym, ap, subst, arith, ◌⊎◌, inl, inr}
+use Rattle.std.proofs.Common.{◌≡◌, ◌≢◌, ◌∙◌, ℕ, ◌+◌, ◌*◌, ◌/◌, ◌<◌, ◌≤◌, suc, Bool, true, false, ne_eqb, List, [], ◌∷◌, ◌++◌, None, length, take, drop, refl, sym, ap, subst, arith, ◌⊎◌, inl, inr}
 use Rattle.std.proofs.lemmas.Bool.{cond-false, eqb-true, false≢true}
 use Rattle.std.proofs.lemmas.List.{take-append-drop, take_all}
 use Rattle.big_atomic.proofs.Answered.{HasAnswered, goes_of}
 use Rattle.big_atomic.proofs.Goings.{goes_then, looked_then}
 use Rattle.big_atomic.proofs.Installed.{EndsChange, LostInstall, change_ready, change_records, change_scanned, change_tried, lost_install, no_lock, won_change}
+use Rattle.big_atomic.proofs.Marking.{turn_begun, turn_more}
 use Rattle.big_atomic.proofs.Pacing.{paces_then}
 use Rattle.big_atomic.proofs.Paid.{exchanges-append, lost-append, scan_loads-append}
 use Rattle.big_atomic.proofs.Winning.{all_steps, has_won, stand, won_on, won_plan, won_stays, won_told}
+use Rattle.big_atomic.specs.Calling.{Goes}
 use Rattle.big_atomic.specs.Installing.{HasInstalled, HasMoved}
+use Rattle.big_atomic.specs.Marks.{HasBegun, HasTurn}
 use Rattle.big_atomic.specs.Ready.{IsReady}
 use Rattle.big_atomic.specs.Turns.{exchanges, lost_steps, scan_loads}
 use Rattle.cache_hash.proofs.Fronted.{GaveUp, HasPrepared, MayPrepare, gave_up, insert_prepared, remove_prepared, replace_prepared}
@@ -110,8 +113,8 @@ given_up key change (InsertEdit other val) is copies = absurd copies
 given_up key change (ReplaceEdit at val) is copies = (copies, λ insert. subst IsInsert is.1.1 insert)
 given_up key change (RemoveEdit at) is copies = (copies, λ insert. subst IsInsert is.1 insert)
 
-module _ {shared : ObjectData} {key : KeyWords} {change : Change} {cell word : ℕ} {due : Due} {scanned : Bool} {before mid : SeatData}
-    (m : MayMake shared key change cell word due scanned before mid) where
+module _ {shared : ObjectData} {key : KeyWords} {change : Change} {cell version word : ℕ} {due : Due} {scanned : Bool} {before mid : SeatData}
+    (m : MayMake shared key change cell version word due scanned before mid) where
   abbrev i : Changing shared key change cell scanned before mid
   i = m.going
 
@@ -181,24 +184,34 @@ module _ {shared : ObjectData} {key : KeyWords} {change : Change} {cell word : �
       }
 
 -- THE FRONT WAS COPIED
-pub record HasFront (shared : ObjectData) (key : KeyWords) (change : Change) (cell word : ℕ) (due : Due) (scanned : Bool) (node : ℕ) (before mid copied : SeatData) : Type 0 where
-  pub may : MayMake shared key change cell word due scanned before mid
+pub record HasFront (shared : ObjectData) (key : KeyWords) (change : Change) (cell version word : ℕ) (due : Due) (scanned : Bool) (node : ℕ)
+    (before mid copied : SeatData) : Type 0 where
+  pub may : MayMake shared key change cell version word due scanned before mid
   pub steps : List Counted
   pub prepared : HasPrepared cell word node (call_for key change) steps mid copied
 
-pub has_front : {shared : ObjectData} {key : KeyWords} {change : Change} {cell word : ℕ} {due : Due} {scanned : Bool} {node : ℕ} {before mid copied : SeatData}
-    → MayMake shared key change cell word due scanned before mid → IsCopied cell due.edit (Ready node) mid copied → IsSeat copied
-    → HasFront shared key change cell word due scanned node before mid copied
+pub has_front : {shared : ObjectData} {key : KeyWords} {change : Change} {cell version word : ℕ} {due : Due} {scanned : Bool} {node : ℕ} {before mid copied : SeatData}
+    → MayMake shared key change cell version word due scanned before mid → IsCopied cell due.edit (Ready node) mid copied → IsSeat copied
+    → HasFront shared key change cell version word due scanned node before mid copied
 has_front {key = key} {change = change} {due = due} m copies law =
     let p = copied_front key change due.edit m.decides.3 (may_prepare m) m.chain.none copies law in record { may = m; steps = p.0; prepared = p.1 }
 
-module _ {shared : ObjectData} {key : KeyWords} {change : Change} {cell word : ℕ} {due : Due} {scanned : Bool} {node : ℕ} {before mid copied : SeatData}
-    (h : HasFront shared key change cell word due scanned node before mid copied) where
+module _ {shared : ObjectData} {key : KeyWords} {change : Change} {cell version word : ℕ} {due : Due} {scanned : Bool} {node : ℕ} {before mid copied : SeatData}
+    (h : HasFront shared key change cell version word due scanned node before mid copied) where
   abbrev j : Changing shared key change cell scanned before mid
   j = h.may.going
 
   pub copied_ours : IsOf shared copied
   copied_ours = goes_of h.prepared.goes (going_of j)
+
+  -- the version was found in this turn
+  pub front_turn : HasTurn cell version word (j.steps ++ h.steps)
+  front_turn = turn_more j.steps h.steps h.prepared.kept h.may.turn
+
+  pub copied_begun : HasBegun cell version word copied.view
+  copied_begun =
+      let goes : Goes cell None (j.steps ++ h.steps) before copied = goes_then j.goes h.prepared.goes in
+      turn_begun before.view copied.view j.begins.ready.law.sound.trail.within (ap (λ (z : View). z.since) goes.only) goes.trail front_turn
 
   -- no change of the seat has a lock
   pub copied_unlocked : copied.view.writer.stage ≢ Locked
@@ -251,21 +264,23 @@ value_of_place key v q history =
     ∙ ap (λ (l : List Entry). (contents_from blank l).values (key_number key)) (take_all (length log) log (omega arith))
 
 -- the call's own cell
-pub own_front : {shared : ObjectData} {key : KeyWords} {change : Change} {cell word : ℕ} {due : Due} {scanned : Bool} {node : ℕ} {before mid copied : SeatData}
-    → HasFront shared key change cell word due scanned node before mid copied
-    → HasFront shared key change (cell_of before.view.plan (call_for key change)) word due scanned node before mid copied
-own_front {shared} {key} {change} {word = word} {due = due} {scanned = scanned} {node = node} {before = before} {mid = mid} {copied = copied} h =
-    subst (λ k. HasFront shared key change k word due scanned node before mid copied) (sym (on_key key change before.view.plan ∙ h.may.going.begins.cell_is)) h
+pub own_front : {shared : ObjectData} {key : KeyWords} {change : Change} {cell version word : ℕ} {due : Due} {scanned : Bool} {node : ℕ} {before mid copied : SeatData}
+    → HasFront shared key change cell version word due scanned node before mid copied
+    → HasFront shared key change (cell_of before.view.plan (call_for key change)) version word due scanned node before mid copied
+own_front {shared} {key} {change} {version = version} {word = word} {due = due} {scanned = scanned} {node = node} {before = before} {mid = mid} {copied = copied} h =
+    subst (λ k. HasFront shared key change k version word due scanned node before mid copied)
+    (sym (on_key key change before.view.plan ∙ h.may.going.begins.cell_is)) h
 
-pub own_installed : {shared : ObjectData} {key : KeyWords} {change : Change} {cell word node : ℕ} {call : Call} {before copied after : SeatData} → Begins shared key change cell before
-    → call ≡ call_for key change → HasInstalled cell word node call copied after
-    → HasInstalled (cell_of before.view.plan (call_for key change)) word node (call_for key change) copied after
-own_installed {key = key} {change = change} {word = word} {node = node} {before = before} {copied = copied} {after = after} b is h =
-    subst (λ (z : ℕ × Call). HasInstalled z.0 word node z.1 copied after) (λ k. (sym (on_key key change before.view.plan ∙ b.cell_is) k, is k)) h
+pub own_installed : {shared : ObjectData} {key : KeyWords} {change : Change} {cell version word node : ℕ} {call : Call} {before copied after : SeatData}
+    → Begins shared key change cell before
+    → call ≡ call_for key change → HasInstalled cell version word node call copied after
+    → HasInstalled (cell_of before.view.plan (call_for key change)) version word node (call_for key change) copied after
+own_installed {key = key} {change = change} {version = version} {word = word} {node = node} {before = before} {copied = copied} {after = after} b is h =
+    subst (λ (z : ℕ × Call). HasInstalled z.0 version word node z.1 copied after) (λ k. (sym (on_key key change before.view.plan ∙ b.cell_is) k, is k)) h
 
-module _ {shared : ObjectData} {key : KeyWords} {change : Change} {word : ℕ} {due : Due} {scanned : Bool} {node : ℕ} {before mid copied after walked final : SeatData}
-    (h : HasFront shared key change (cell_of before.view.plan (call_for key change)) word due scanned node before mid copied)
-    (installed : HasInstalled (cell_of before.view.plan (call_for key change)) word node (call_for key change) copied after)
+module _ {shared : ObjectData} {key : KeyWords} {change : Change} {version word : ℕ} {due : Due} {scanned : Bool} {node : ℕ} {before mid copied after walked final : SeatData}
+    (h : HasFront shared key change (cell_of before.view.plan (call_for key change)) version word due scanned node before mid copied)
+    (installed : HasInstalled (cell_of before.view.plan (call_for key change)) version word node (call_for key change) copied after)
     (walk : ClearsWalk after walked) (back : IsReleased Back walked final) (last : IsSeat final) where
   abbrev asked : Call
   asked = call_for key change
@@ -279,7 +294,7 @@ module _ {shared : ObjectData} {key : KeyWords} {change : Change} {word : ℕ} {
   abbrev so_far : List Counted
   so_far = going.steps ++ h.steps
 
-  abbrev won : EndsChange shared own_cell word node asked so_far going.look before copied after walked final
+  abbrev won : EndsChange shared own_cell version word node asked so_far going.look before copied after walked final
   won = record {
     ready = going.begins.ready;
     first = going.begins.ready.law;
@@ -293,6 +308,7 @@ module _ {shared : ObjectData} {key : KeyWords} {change : Change} {word : ℕ} {
     };
     paced = paces_then going.paced h.prepared.paced;
     installed = installed;
+    loaded = (front_turn h).loaded;
     walk = walk;
     back = back;
     last = last;

@@ -138,14 +138,15 @@ looks_onward key change p = record {
 module _ {shared : ObjectData} {key : KeyWords} {change : Change} {cell : ℕ} {before mid now : SeatData} (i : Changing shared key change cell false before mid) (s : IsScan mid now)
     (law : IsSeat mid) (last : IsSeat now) where
   -- no node was retired so far, so as many are free as at first
-  free_still : length mid.free ≡ length before.free
+  pub free_still : length mid.free ≡ length before.free
   free_still =
       let stock = i.goes.stock in
       let long = law.long in
       let first = i.begins.ready.law.long in
       omega (arith, ap (length {A = ℕ}) i.idle, ap (length {A = ℕ}) i.begins.ready.idle, ap (length {A = ℕ}) i.scans.retired)
 
-  pub after_scan : {need : ℕ} → (claim_of BACK mid.view).stands ≡ true → NeedsNodes (call_for key change) (length mid.view.seen) need mid.view → length mid.free < need
+  abbrev pub after_scan : {need : ℕ} → (claim_of BACK mid.view).stands ≡ true → NeedsNodes (call_for key change) (length mid.view.seen) need mid.view
+      → length mid.free < need
       → Changing shared key change cell true before now
   after_scan {need} back needs few =
       let view = scan_view s law last in

@@ -1,13 +1,15 @@
 -- The turns of a change, from one claim of its bucket's node to the next.
-use Rattle.std.proofs.Common.{◌≡◌, ◌∙◌, ℕ, ◌+◌, ◌*◌, ◌-◌, ◌/◌, ◌^◌, ◌<◌, ◌≤◌, Bool, true, false, List, Option, None, Some, length, take, drop, refl, sym, ap, subst, arith, ◌⊎◌, inl, ⊎_elim, is_some}
+use Rattle.std.proofs.Common.{◌≡◌, ◌∙◌, ℕ, ◌+◌, ◌*◌, ◌-◌, ◌/◌, ◌^◌, ◌<◌, ◌≤◌, Bool, true, false, List, ◌++◌, Option, None, Some, length, take, drop, refl, sym, ap, subst, arith, ◌⊎◌, inl, ⊎_elim, is_some}
 use Rattle.chain_links.proofs.Another.{none_of_on}
 use Rattle.std.proofs.Math.Nat.{le-max_right}
 use Rattle.std.proofs.lemmas.Bool.{false≢true}
 use Rattle.std.proofs.lemmas.List.{take_all}
 use Rattle.big_atomic.proofs.Pacing.{paces_then}
-use Rattle.big_atomic.proofs.Scanning.{scan_view}
-use Rattle.big_atomic.specs.Calling.{Goes, HasClaimed, Paces}
+use Rattle.big_atomic.proofs.Marking.{turn_behind, turn_more}
+use Rattle.big_atomic.proofs.Scanning.{scan_lost, scan_view}
+use Rattle.big_atomic.specs.Calling.{Goes, HasStarted, Paces}
 use Rattle.big_atomic.specs.Installing.{HasNear}
+use Rattle.big_atomic.specs.Marks.{HasTurn}
 use Rattle.big_atomic.specs.Ready.{IsReady}
 use Rattle.cache_hash.proofs.Finding.{OnWay, has_back, longer, seen_part, value_of_records, way_counts, way_end, way_found, way_lost}
 use Rattle.cache_hash.proofs.Keyed.{changes_by, keeps_same, on_key, there_for, tries_then}
@@ -62,9 +64,10 @@ begins_change key change cell ready some left removes wide is = record {
   wide = wide;
 }
 
-pub first_turn : {shared : ObjectData} {key : KeyWords} {change : Change} {cell word : ℕ} {before now : SeatData} → Begins shared key change cell before → HasClaimed BACK cell word before now
-    → IsAtTurn shared key change cell word false before now
-first_turn {key = key} {change = change} b h = let s = h.0 in record {
+pub first_turn : {shared : ObjectData} {key : KeyWords} {change : Change} {cell version word : ℕ} {before now : SeatData}
+    → Begins shared key change cell before → HasStarted cell version word before now
+    → IsAtTurn shared key change cell version word false before now
+first_turn {key = key} {change = change} b h = let s = h.0.0 in record {
   so_far = record {
     going = record {
       begins = b;
@@ -83,7 +86,8 @@ first_turn {key = key} {change = change} b h = let s = h.0 in record {
     };
     tried = λ yes. absurd (false≢true yes);
   };
-  claim = h.1;
+  turn = h.1;
+  claim = h.0.1;
 }
 
 -- A FURTHER ONE
@@ -95,16 +99,22 @@ tried_more {key = key} {change = change} {b = b} t paced o serve = record {
   tried = λ yes. tries_then t.going.steps b (t.tried yes);
 }
 
-pub next_turn : {shared : ObjectData} {key : KeyWords} {change : Change} {cell word : ℕ} {scanned : Bool} {before old mid now : SeatData} → HasLostTurn shared key change cell scanned before old mid
-    → HasClaimed BACK cell word mid now → IsAtTurn shared key change cell word scanned before now
+pub next_turn : {shared : ObjectData} {key : KeyWords} {change : Change} {cell version word : ℕ} {scanned : Bool} {before old mid now : SeatData}
+    → HasLostTurn shared key change cell scanned before old mid
+    → HasStarted cell version word mid now → IsAtTurn shared key change cell version word scanned before now
 next_turn {key = key} {change = change} {cell = cell} {word = word} {mid = mid} {now = now} l h =
-    record { so_far = tried_more l.so_far l.paced (looks_onward key change (seen_part cell word mid now h.0)) (omega arith); claim = h.1 }
+    record {
+      so_far = tried_more l.so_far l.paced (looks_onward key change (seen_part cell word mid now h.0.0)) (omega arith);
+      turn = turn_behind l.so_far.going.steps h.0.0.steps h.1;
+      claim = h.0.1;
+    }
 
-pub turn_smaller : {shared : ObjectData} {key : KeyWords} {change : Change} {cell word next : ℕ} {scanned made : Bool} {before last mid now : SeatData}
-    → IsAtTurn shared key change cell word scanned before last → HasLostTurn shared key change cell made before last mid → HasClaimed BACK cell next mid now
+pub turn_smaller : {shared : ObjectData} {key : KeyWords} {change : Change} {cell version word next_version next : ℕ} {scanned made : Bool} {before last mid now : SeatData}
+    → IsAtTurn shared key change cell version word scanned before last → HasLostTurn shared key change cell made before last mid
+    → HasStarted cell next_version next mid now
     → now.view.plan.seats * now.view.plan.changes - length now.view.seen < last.view.plan.seats * last.view.plan.changes - length last.view.seen
 turn_smaller {cell = cell} {last = last} {mid = mid} {now = now} at l h =
-    let g : Goes cell None h.0.steps mid now = h.0.goes None in
+    let g : Goes cell None h.0.0.steps mid now = h.0.0.goes None in
     let further = longer_seen mid.view.seen now.view.seen g.seen in
     let more = l.longer in
     let within = g.sound.within in
@@ -113,7 +123,8 @@ turn_smaller {cell = cell} {last = last} {mid = mid} {now = now} at l h =
     let all = ap (λ (p : Plan). p.seats * p.changes) plan in omega arith
 
 -- A TURN'S WALK
-module _ {shared : ObjectData} {key : KeyWords} {change : Change} {cell word : ℕ} {scanned : Bool} {before mid : SeatData} (t : IsAtTurn shared key change cell word scanned before mid) where
+module _ {shared : ObjectData} {key : KeyWords} {change : Change} {cell version word : ℕ} {scanned : Bool} {before mid : SeatData}
+    (t : IsAtTurn shared key change cell version word scanned before mid) where
   abbrev i : Changing shared key change cell scanned before mid
   i = t.so_far.going
 
@@ -128,9 +139,10 @@ module _ {shared : ObjectData} {key : KeyWords} {change : Change} {cell word : �
 
   -- the walk's end, and what is decided there
   decided : {found : Option (List ℕ)} {now : SeatData} (decision : Decision) → OnWay cell word key found mid now → IsSeat now → Decides key change found (claimed_records now.view) decision
-      → HasDecided shared key change cell word decision scanned before now
+      → HasDecided shared key change cell version word decision scanned before now
   decided {found} {now} decision o law decides = record {
     so_far = tried_more t.so_far i.paced (looks_onward key change o.way.part) (omega arith);
+    turn = turn_more i.steps o.way.steps o.way.kept t.turn;
     found = found;
     chain = record {
       near = record { word = o.way.word; found = o.way.found; near = o.way.near ∙ sym o.near; fell = o.way.fell };
@@ -146,13 +158,15 @@ module _ {shared : ObjectData} {key : KeyWords} {change : Change} {cell word : �
   }
 
   pub turn_found : (at : ℕ) (there : List ℕ) (decision : Decision) (now : SeatData) → IsSeat now → IsWalked cell key (Found at there) mid now
-      → ((rs : List (List ℕ)) → place_in rs (key_number key) ≡ at → Decides key change (Some there) rs decision) → HasDecided shared key change cell word decision scanned before now
+      → ((rs : List (List ℕ)) → place_in rs (key_number key) ≡ at → Decides key change (Some there) rs decision)
+      → HasDecided shared key change cell version word decision scanned before now
   turn_found at there decision now law w decides =
       let o = way_found cell word key mid now t.claim cell_now at there w in
       decided decision o law (decides (claimed_records now.view) (ap (λ (x : Claim). place_in (records_of x.pages) (key_number key)) o.way.back ∙ w.says.1))
 
   pub turn_end : (count : ℕ) (decision : Decision) (now : SeatData) → IsSeat now → IsWalked cell key (End count) mid now
-      → ((rs : List (List ℕ)) → length rs ≡ count → Decides key change None rs decision) → HasDecided shared key change cell word decision scanned before now
+      → ((rs : List (List ℕ)) → length rs ≡ count → Decides key change None rs decision)
+      → HasDecided shared key change cell version word decision scanned before now
   turn_end count decision now law w decides = decided decision (way_end cell word key mid now t.claim cell_now count w) law
       (decides (claimed_records now.view) (way_counts cell word key mid now t.claim cell_now count w))
 
@@ -227,8 +241,9 @@ module _ {shared : ObjectData} {key : KeyWords} {change : Change} {cell word : �
       }
 
 -- NO CHANGE is to be made
-pub stays_known : {shared : ObjectData} {key : KeyWords} {change : Change} {cell word : ℕ} {decision : Decision} {scanned : Bool} {before now : SeatData} (there : Option (List ℕ))
-    → decision ≡ Stays there → HasDecided shared key change cell word decision scanned before now → KnowsEnd shared key change cell (Plain there) before now
+pub stays_known : {shared : ObjectData} {key : KeyWords} {change : Change} {cell version word : ℕ} {decision : Decision} {scanned : Bool} {before now : SeatData} (there : Option (List ℕ))
+    → decision ≡ Stays there → HasDecided shared key change cell version word decision scanned before now
+    → KnowsEnd shared key change cell (Plain there) before now
 stays_known {key = key} {change = change} {scanned = scanned} {now = now} there is d =
     let decides : Decides key change d.found (claimed_records now.view) (Stays there) = subst (Decides key change d.found (claimed_records now.view)) is d.decides in record {
       scanned = scanned;
@@ -237,36 +252,44 @@ stays_known {key = key} {change = change} {scanned = scanned} {now = now} there 
     }
 
 -- A CHANGE is due
-pub is_due : {shared : ObjectData} {key : KeyWords} {change : Change} {cell word : ℕ} {decision : Decision} {scanned : Bool} {before now : SeatData} (due : Due)
-    → decision ≡ Changes due → HasDecided shared key change cell word decision scanned before now → IsDue shared key change cell word due scanned before now
+pub is_due : {shared : ObjectData} {key : KeyWords} {change : Change} {cell version word : ℕ} {decision : Decision} {scanned : Bool} {before now : SeatData} (due : Due)
+    → decision ≡ Changes due → HasDecided shared key change cell version word decision scanned before now
+    → IsDue shared key change cell version word due scanned before now
 is_due {key = key} {change = change} {cell = cell} {word = word} {now = now} due is d =
     let decides : Decides key change d.found (claimed_records now.view) (Changes due) = subst (Decides key change d.found (claimed_records now.view)) is d.decides in record {
       so_far = d.so_far;
+      turn = d.turn;
       chain = subst (λ (found : Option (List ℕ)). KnowsChain key cell word found now) (sym decides.0) d.chain;
       decides = (refl, ap (would_change change) decides.0 ∙ decides.1, decides.2, decides.3);
     }
 
 -- ROOM
 -- for so many nodes, or after the call's scan
-pub record HasRoom (shared : ObjectData) (key : KeyWords) (change : Change) (cell word : ℕ) (due : Due) (made : Bool) (before now : SeatData) : Type 0 where
+pub record HasRoom (shared : ObjectData) (key : KeyWords) (change : Change) (cell version word : ℕ) (due : Due) (made : Bool)
+    (before now : SeatData) : Type 0 where
   pub going : Changing shared key change cell made before now
+  pub turn : HasTurn cell version word going.steps
   pub chain : KnowsChain key cell word due.there now
   pub decides : Decides key change due.there (claimed_records now.view) (Changes due)
   pub room : (made ≡ true) ⊎ (due.need ≤ length now.free)
 
-pub room_made : {shared : ObjectData} {key : KeyWords} {change : Change} {cell word : ℕ} {due : Due} {scanned made : Bool} {before mid now : SeatData}
-    → IsDue shared key change cell word due scanned before mid → MakesRoom due.need scanned made mid now → IsSeat now → HasRoom shared key change cell word due made before now
-room_made {shared} {key} {change} {cell} {word} {due} {scanned} {made} {before} {mid} {now} p (stays same as_before room) law =
-    subst (λ (z : Bool × SeatData). HasRoom shared key change cell word due z.0 before z.1) (λ j. (sym as_before j, sym same j))
-    (record { going = p.so_far.going; chain = p.chain; decides = p.decides; room = room })
-room_made {shared} {key} {change} {cell} {word} {due} {scanned} {made} {before} {mid} {now} p (scans is_made not_scanned few s) law =
+pub room_made : {shared : ObjectData} {key : KeyWords} {change : Change} {cell version word : ℕ} {due : Due} {scanned made : Bool} {before mid now : SeatData}
+    → IsDue shared key change cell version word due scanned before mid → MakesRoom due.need scanned made mid now → IsSeat now
+    → HasRoom shared key change cell version word due made before now
+room_made {shared} {key} {change} {cell} {version} {word} {due} {scanned} {made} {before} {mid} {now} p (stays same as_before room) law =
+    subst (λ (z : Bool × SeatData). HasRoom shared key change cell version word due z.0 before z.1) (λ j. (sym as_before j, sym same j))
+    (record { going = p.so_far.going; turn = p.turn; chain = p.chain; decides = p.decides; room = room })
+room_made {shared} {key} {change} {cell} {version} {word} {due} {scanned} {made} {before} {mid} {now} p (scans is_made not_scanned few s) law =
     let c = p.chain in
     let view = scan_view s c.law law in
     let back : claim_of BACK now.view ≡ claim_of BACK mid.view = s.claims BACK (λ e. absurd (omega arith)) in
     let records : claimed_records now.view ≡ claimed_records mid.view = ap (λ (x : Claim). records_of x.pages) back in
-    let going : Changing shared key change cell false before mid = subst (λ b. Changing shared key change cell b before mid) not_scanned p.so_far.going in
-    subst (λ b. HasRoom shared key change cell word due b before now) (sym is_made) (record {
+    let so_far : (going : Changing shared key change cell false before mid) × HasTurn cell version word going.steps =
+    subst (λ b. (going : Changing shared key change cell b before mid) × HasTurn cell version word going.steps) not_scanned (p.so_far.going, p.turn) in
+    let going : Changing shared key change cell false before mid = so_far.0 in
+    subst (λ b. HasRoom shared key change cell version word due b before now) (sym is_made) (record {
       going = after_scan going s c.law law c.stands.on (needs_known going c p.decides.1 p.decides.2) few;
+      turn = turn_more going.steps (s.clear ++ s.loads) (scan_lost s c.law law) so_far.1;
       chain = record {
         near = subst (λ (z : View). HasNear cell word z) (sym view) (record { word = c.near.word; found = c.near.found; near = c.near.near; fell = c.near.fell });
         stands = subst (λ (x : Claim). On x (word / 2)) (sym back) c.stands;
@@ -286,7 +309,8 @@ pub room_seen : {needed : ℕ} {scanned made : Bool} {mid now : SeatData} → Ma
 room_seen (stays same as_before room) = omega (arith, ap (λ (z : SeatData). length z.view.seen) same)
 room_seen (scans is_made not_scanned few s) = omega (arith, ap (λ (z : SeatData). length z.view.seen) s.same)
 
-module _ {shared : ObjectData} {key : KeyWords} {change : Change} {cell word : ℕ} {due : Due} {made : Bool} {before now : SeatData} (r : HasRoom shared key change cell word due made before now) where
+module _ {shared : ObjectData} {key : KeyWords} {change : Change} {cell version word : ℕ} {due : Due} {made : Bool} {before now : SeatData}
+    (r : HasRoom shared key change cell version word due made before now) where
   pub too_few : (free : ℕ) → free ≡ length now.free → free < due.need → KnowsEnd shared key change cell (Full due.need free) before now
   too_few free is few = record {
     scanned = made;
@@ -300,5 +324,5 @@ module _ {shared : ObjectData} {key : KeyWords} {change : Change} {cell word : �
     );
   }
 
-  pub enough_there : due.need ≤ length now.free → MayMake shared key change cell word due made before now
-  enough_there enough = record { going = r.going; chain = r.chain; decides = r.decides; free = enough }
+  pub enough_there : due.need ≤ length now.free → MayMake shared key change cell version word due made before now
+  enough_there enough = record { going = r.going; turn = r.turn; chain = r.chain; decides = r.decides; free = enough }

@@ -5,7 +5,7 @@ use Rattle.std.proofs.lemmas.List.{get_or-set_other, get_or-set_same}
 use Rattle.big_atomic.proofs.Claimed.{loads_still, loads_unscanned, looks_then, none_later, read_goes}
 use Rattle.big_atomic.proofs.Goings.{LooksAt, goes_look, goes_lost, goes_none, goes_still, goes_then, looks_at, moved_since}
 use Rattle.big_atomic.proofs.Pacing.{paces_still, paces_then}
-use Rattle.big_atomic.proofs.Paid.{still_exchanges}
+use Rattle.big_atomic.proofs.Paid.{lost-append, still_exchanges, still_lost}
 use Rattle.big_atomic.specs.Calling.{AreLooks, Goes, HasClaim, HasFound, OnlySteps, Paces}
 use Rattle.big_atomic.specs.Turns.{is_lost, lost_steps}
 use Rattle.chain_links.proofs.Passing.{Kept, announced_kept, announced_names, back_claim, claim_at_low, come_sound, kept_back, passed_kept, read_kept, rechecked_kept}
@@ -138,6 +138,7 @@ walk_falls cell seen found word link old now walks sound b last =
 pub record Way (cell seen first : ℕ) (old now : SeatData) : Type 0 where
   pub steps : List Counted
   pub part : OnlyLooks 1 1 cell steps old now
+  pub kept : lost_steps steps ≡ 0
   pub back : claim_of BACK now.view ≡ claim_of BACK old.view
   pub noted : now.noted ≡ old.noted
   pub word : ℕ
@@ -154,6 +155,7 @@ way_first : (cell seen word node : ℕ) (words : List ℕ) (old now : SeatData) 
 way_first cell seen word node words old now claim near r sound = record {
   steps = load_steps node 0 words (length old.view.seen);
   part = read_part cell node words old now r sound;
+  kept = still_lost (load_steps node 0 words (length old.view.seen)) (loads_still node 0 (length old.view.seen) words);
   back = ap (λ (z : SeatData). claim_of BACK z.view) r.same;
   noted = ap (λ (z : SeatData). z.noted) r.same;
   word = word;
@@ -168,6 +170,7 @@ way_first cell seen word node words old now claim near r sound = record {
 pub record PassedLink (cell seen : ℕ) (old now : SeatData) : Type 0 where
   pub steps : List Counted
   pub part : OnlyLooks 1 1 cell steps old now
+  pub kept : lost_steps steps ≡ 0
   pub word : ℕ
   pub found : HasFound cell word now.view
   pub near : word / 2 ≡ seen / 2
@@ -195,6 +198,11 @@ link_passed cell seen page old now sound b h =
     let plan_is : now.view.plan ≡ h.announced.view.plan = (read_kept h.reads).plan ∙ k_rechecked.plan in record {
       steps = a ++ (c ++ d);
       part = only_looks_then cell a (c ++ d) old h.announced now announcing (only_looks_then cell c d h.announced h.rechecked now second third);
+      kept =
+          let stays : is_lost (counted (Recheck WALK cell seen) h.found (length h.rechecked.view.seen)) ≡ false = ap not
+          (eq-eqb (h.found / 2) (seen / 2) near) in
+          let none : lost_steps c ≡ 0 = ap (λ (b : Bool). length (cond b c [])) stays in
+          omega (arith, lost-append c d, still_lost d (loads_still page.node 0 (length h.rechecked.view.seen) page.words));
       word = h.found;
       found = ap (λ (z : SeatData). z.view.look) h.reads.same ∙ (recheck_found cell seen h.found page.node h.announced h.rechecked near walks r.same h.announced_sound h.rechecked_sound
           ∙ ap (λ (z : SeatData). Some (look_at cell h.found (length z.view.seen))) (sym h.reads.same));
@@ -211,6 +219,7 @@ way_on cell seen first page old mid now w sound b h =
     let k = passed_kept cell seen page mid now sound h in record {
       steps = w.steps ++ p.steps;
       part = only_looks_then cell w.steps p.steps old mid now w.part p.part;
+      kept = let kept = w.kept in let kept_then = p.kept in omega (arith, lost-append w.steps p.steps);
       back = k.back ∙ w.back;
       noted = k.noted ∙ w.noted;
       word = p.word;

@@ -3,6 +3,7 @@ use Rattle.std.specs.Prelude.{◌≡◌, ◌⊎◌, ℕ, ◌+◌, ◌*◌, ◌/�
 use Rattle.big_atomic.specs.Calling.{Goes, HasClaim, IsLooked, Paces}
 use Rattle.chain_links.specs.Walking.{MadeNoChange}
 use Rattle.big_atomic.specs.Installing.{HasNear}
+use Rattle.big_atomic.specs.Marks.{HasTurn}
 use Rattle.big_atomic.specs.Ready.{IsReady}
 use Rattle.big_atomic.specs.Turns.{exchanges, lost_steps, scan_loads}
 use Rattle.cache_hash.specs.Asking.{Decides, HasEnded, IsInsert, NeverChanges, call_for, would_change}
@@ -92,9 +93,10 @@ pub record HasLostTurn (shared : ObjectData) (key : KeyWords) (change : Change) 
   pub paced : Paces 0 0 so_far.going.steps
   pub longer : length old.view.seen < length now.view.seen
 
--- a turn begins: the node of the word that was found last in the cell is claimed
-pub record IsAtTurn (shared : ObjectData) (key : KeyWords) (change : Change) (cell word : ℕ) (scanned : Bool) (before now : SeatData) : Type 0 where
+-- a turn begins: the cell's version was found, and then its node claimed, by the word that was found last
+pub record IsAtTurn (shared : ObjectData) (key : KeyWords) (change : Change) (cell version word : ℕ) (scanned : Bool) (before now : SeatData) : Type 0 where
   pub so_far : HasTried shared key change cell scanned before now
+  pub turn : HasTurn cell version word so_far.going.steps
   pub claim : HasClaim BACK cell word now
 
 -- the claimed chain has the cell's records at the end of what is seen, and the key has this value there
@@ -109,21 +111,27 @@ pub record KnowsChain (key : KeyWords) (cell word : ℕ) (found : Option (List �
   pub law : IsSeat seat
 
 -- so this is decided
-pub record HasDecided (shared : ObjectData) (key : KeyWords) (change : Change) (cell word : ℕ) (decision : Decision) (scanned : Bool) (before now : SeatData) : Type 0 where
+pub record HasDecided (shared : ObjectData) (key : KeyWords) (change : Change) (cell version word : ℕ) (decision : Decision) (scanned : Bool)
+    (before now : SeatData) : Type 0 where
   pub so_far : HasTried shared key change cell scanned before now
+  pub turn : HasTurn cell version word so_far.going.steps
   pub found : Option (List ℕ)
   pub chain : KnowsChain key cell word found now
   pub decides : Decides key change found (claimed_records now.view) decision
 
 -- the object is to change
-pub record IsDue (shared : ObjectData) (key : KeyWords) (change : Change) (cell word : ℕ) (due : Due) (scanned : Bool) (before now : SeatData) : Type 0 where
+pub record IsDue (shared : ObjectData) (key : KeyWords) (change : Change) (cell version word : ℕ) (due : Due) (scanned : Bool)
+    (before now : SeatData) : Type 0 where
   pub so_far : HasTried shared key change cell scanned before now
+  pub turn : HasTurn cell version word so_far.going.steps
   pub chain : KnowsChain key cell word due.there now
   pub decides : Decides key change due.there (claimed_records now.view) (Changes due)
 
 -- and may, as so many nodes are free as are needed
-pub record MayMake (shared : ObjectData) (key : KeyWords) (change : Change) (cell word : ℕ) (due : Due) (scanned : Bool) (before now : SeatData) : Type 0 where
+pub record MayMake (shared : ObjectData) (key : KeyWords) (change : Change) (cell version word : ℕ) (due : Due) (scanned : Bool)
+    (before now : SeatData) : Type 0 where
   pub going : Changing shared key change cell scanned before now
+  pub turn : HasTurn cell version word going.steps
   pub chain : KnowsChain key cell word due.there now
   pub decides : Decides key change due.there (claimed_records now.view) (Changes due)
   pub free : due.need ≤ length now.free

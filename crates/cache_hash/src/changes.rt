@@ -12,7 +12,7 @@ use crate::asked::{
 };
 use crate::cells::bucket_cell;
 use crate::turns::Turn;
-use big_atomic::{Install, answer_now, claim_node, install};
+use big_atomic::{Install, Start, answer_now, claim_versioned, install};
 use chain_links::{Front, Walk, copy_front, walk};
 use hazard_claims::{Claim, clear_walk, release, scan};
 use seat_history::KeyWords;
@@ -31,31 +31,31 @@ pub(crate) fn change(shared: &Shared, seat: &mut Seat, key: KeyWords, change: Ch
 {
     let cell = bucket_cell(shared, key);
     let asked = Asked { key, change, cell };
-    let mut word = claim_node(shared, seat, Claim::Back, cell);
+    let mut start = claim_versioned(shared, seat, cell);
     let mut scanned = false;
     'turns: loop {
-        match try_change(shared, seat, asked, word, scanned) {
+        match try_change(shared, seat, asked, start, scanned) {
             Turn::Ends(told) => return told,
             Turn::Moved { scanned: made } => scanned = made,
         }
-        word = claim_node(shared, seat, Claim::Back, cell);
+        start = claim_versioned(shared, seat, cell);
     }
 }
 
-// One turn, with the bucket's node claimed: looks for the key, and goes on as its value says.
-fn try_change(shared: &Shared, seat: &mut Seat, asked: Asked, word: u64, scanned: bool) -> Turn
-    requires past { (before : SeatData) × IsAtTurn shared.now asked.key asked.change asked.cell word scanned before seat.old }
-    ensures turned { (before : SeatData) → IsAtTurn shared.now asked.key asked.change asked.cell word scanned before seat.old
+// One turn, with the bucket's version found and its node claimed: looks for the key, and goes on as its value says.
+fn try_change(shared: &Shared, seat: &mut Seat, asked: Asked, start: Start, scanned: bool) -> Turn
+    requires past { (before : SeatData) × IsAtTurn shared.now asked.key asked.change asked.cell start.version start.word scanned before seat.old }
+    ensures turned { (before : SeatData) → IsAtTurn shared.now asked.key asked.change asked.cell start.version start.word scanned before seat.old
         → HasTurned shared.now asked.key asked.change asked.cell result before seat.old seat.new }
 {
     match walk(shared, seat, asked.cell, asked.key) {
         Walk::Found { at, val } => {
             let decision = decide_there(asked, at, val);
-            go_on(shared, seat, asked, word, decision, scanned)
+            go_on(shared, seat, asked, start, decision, scanned)
         }
         Walk::End { length } => {
             let decision = decide_absent(asked, length);
-            go_on(shared, seat, asked, word, decision, scanned)
+            go_on(shared, seat, asked, start, decision, scanned)
         }
         Walk::Moved => Turn::Moved { scanned },
     }
@@ -66,12 +66,12 @@ fn go_on(
     shared: &Shared,
     seat: &mut Seat,
     asked: Asked,
-    word: u64,
+    start: Start,
     decision: Decision,
     scanned: bool,
 ) -> Turn
-    requires past { (before : SeatData) × HasDecided shared.now asked.key asked.change asked.cell word decision scanned before seat.old }
-    ensures turned { (before : SeatData) → HasDecided shared.now asked.key asked.change asked.cell word decision scanned before seat.old
+    requires past { (before : SeatData) × HasDecided shared.now asked.key asked.change asked.cell start.version start.word decision scanned before seat.old }
+    ensures turned { (before : SeatData) → HasDecided shared.now asked.key asked.change asked.cell start.version start.word decision scanned before seat.old
         → HasTurned shared.now asked.key asked.change asked.cell result before seat.old seat.new }
 {
     match decision {
@@ -80,7 +80,7 @@ fn go_on(
             tell(shared, seat, asked, told);
             Turn::Ends(told)
         }
-        Decision::Changes { due } => make_change(shared, seat, asked, word, due, scanned),
+        Decision::Changes { due } => make_change(shared, seat, asked, start, due, scanned),
     }
 }
 
@@ -89,12 +89,12 @@ fn make_change(
     shared: &Shared,
     seat: &mut Seat,
     asked: Asked,
-    word: u64,
+    start: Start,
     due: Due,
     scanned: bool,
 ) -> Turn
-    requires past { (before : SeatData) × IsDue shared.now asked.key asked.change asked.cell word due scanned before seat.old }
-    ensures turned { (before : SeatData) → IsDue shared.now asked.key asked.change asked.cell word due scanned before seat.old
+    requires past { (before : SeatData) × IsDue shared.now asked.key asked.change asked.cell start.version start.word due scanned before seat.old }
+    ensures turned { (before : SeatData) → IsDue shared.now asked.key asked.change asked.cell start.version start.word due scanned before seat.old
         → HasTurned shared.now asked.key asked.change asked.cell result before seat.old seat.new }
 {
     let made = make_room(shared, seat, due.need, scanned);
@@ -105,7 +105,7 @@ fn make_change(
         tell(shared, seat, asked, told);
         return Turn::Ends(told);
     }
-    install_change(shared, seat, asked, word, due, made)
+    install_change(shared, seat, asked, start, due, made)
 }
 
 // Scans where fewer nodes are free than are needed and the call hasn't scanned yet, and answers whether
@@ -129,19 +129,21 @@ fn install_change(
     shared: &Shared,
     seat: &mut Seat,
     asked: Asked,
-    word: u64,
+    start: Start,
     due: Due,
     scanned: bool,
 ) -> Turn
-    requires past { (before : SeatData) × MayMake shared.now asked.key asked.change asked.cell word due scanned before seat.old }
-    ensures turned { (before : SeatData) → MayMake shared.now asked.key asked.change asked.cell word due scanned before seat.old
+    requires past { (before : SeatData) × MayMake shared.now asked.key asked.change asked.cell start.version start.word due scanned before seat.old }
+    ensures turned { (before : SeatData) → MayMake shared.now asked.key asked.change asked.cell start.version start.word due scanned before seat.old
         → HasTurned shared.now asked.key asked.change asked.cell result before seat.old seat.new }
 {
     let Front::Ready { node } = copy_front(shared, seat, asked.cell, due.edit) else {
         return Turn::Moved { scanned };
     };
     let call = call_of(asked);
-    let Install::Installed = install(shared, seat, asked.cell, word, node, call) else {
+    let version = start.version;
+    let installed = install(shared, seat, asked.cell, version, start.word, node, call);
+    let Install::Installed = installed else {
         return Turn::Moved { scanned };
     };
     clear_walk(shared, seat);

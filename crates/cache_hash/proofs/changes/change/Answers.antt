@@ -10,7 +10,7 @@ bucket_cell-cell-requires-clause-plan c = subst IsPlan c.requires.ready.ours.pla
 pub turns-init : goal.turns-init
 turns-init c = first_turn
     (begins_change c.args.key c.args.change c.bucket_cell-cell.result c.requires.ready c.requires.some c.requires.left c.requires.removes c.requires.wide c.bucket_cell-cell.ensures.cell)
-    c.claim_node-word.ensures.claimed
+    c.claim_versioned-start.ensures.started
 
 pub returns-in-Ends-clause-ready : goal.returns-in-Ends-clause-ready
 returns-in-Ends-clause-ready c = (c.in-Ends.ensures.turned c.args.seat.now c.turns.invariant).0
@@ -18,11 +18,11 @@ returns-in-Ends-clause-ready c = (c.in-Ends.ensures.turned c.args.seat.now c.tur
 pub returns-in-Ends-clause-ended : goal.returns-in-Ends-clause-ended
 returns-in-Ends-clause-ended c = (c.in-Ends.ensures.turned c.args.seat.now c.turns.invariant).1
 
-pub claim_node-word-requires-in-turns-clause-ours : goal.claim_node-word-requires-in-turns-clause-ours
-claim_node-word-requires-in-turns-clause-ours c = going_of (c.in-Moved.ensures.turned c.args.seat.now c.turns.invariant).so_far.going
+pub claim_versioned-start-requires-in-turns-clause-ours : goal.claim_versioned-start-requires-in-turns-clause-ours
+claim_versioned-start-requires-in-turns-clause-ours c = going_of (c.in-Moved.ensures.turned c.args.seat.now c.turns.invariant).so_far.going
 
 pub turns-smaller : goal.turns-smaller
-turns-smaller c = turn_smaller c.turns.invariant (c.in-Moved.ensures.turned c.args.seat.now c.turns.invariant) c.claim_node-word-in-turns.ensures.claimed
+turns-smaller c = turn_smaller c.turns.invariant (c.in-Moved.ensures.turned c.args.seat.now c.turns.invariant) c.claim_versioned-start-in-turns.ensures.started
 
 pub turns-preserved : goal.turns-preserved
-turns-preserved c = next_turn (c.in-Moved.ensures.turned c.args.seat.now c.turns.invariant) c.claim_node-word-in-turns.ensures.claimed
+turns-preserved c = next_turn (c.in-Moved.ensures.turned c.args.seat.now c.turns.invariant) c.claim_versioned-start-in-turns.ensures.started

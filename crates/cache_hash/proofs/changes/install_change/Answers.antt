@@ -1,6 +1,6 @@
 use Rattle.big_atomic.proofs.Ending.{walk_ours}
 use Rattle.big_atomic.proofs.Installed.{installed_ours}
-use Rattle.cache_hash.proofs.Making.{copied_ours, copied_unlocked, gave_up_turn, has_front, lost_turn, made, make_back, make_free, make_place, own_front, own_installed}
+use Rattle.cache_hash.proofs.Making.{copied_begun, copied_ours, copied_unlocked, gave_up_turn, has_front, lost_turn, made, make_back, make_free, make_place, own_front, own_installed}
 use Rattle.cache_hash.proofs.changes.install_change.Goals as goal
 
 pub copy_front-requires-clause-back : goal.copy_front-requires-clause-back
@@ -18,24 +18,29 @@ copy_front-requires-clause-free c = make_free c.requires.past.1
 pub returns-in_default : goal.returns-in_default
 returns-in_default c = record { turned = λ before m. gave_up_turn m c.in_default.ensures.copied }
 
-pub install-requires-clause-may : goal.install-requires-clause-may
-install-requires-clause-may c = rw c.call_of-call.ensures (has_front c.requires.past.1 c.in-Ready.ensures.copied c.in-Ready.ensures.law).prepared.may
+pub install-installed-requires-clause-may : goal.install-installed-requires-clause-may
+install-installed-requires-clause-may c = rw c.call_of-call.ensures (has_front c.requires.past.1 c.in-Ready.ensures.copied c.in-Ready.ensures.law).prepared.may
 
-pub install-requires-clause-front : goal.install-requires-clause-front
-install-requires-clause-front c = rw c.call_of-call.ensures (has_front c.requires.past.1 c.in-Ready.ensures.copied c.in-Ready.ensures.law).prepared.front
+pub install-installed-requires-clause-front : goal.install-installed-requires-clause-front
+install-installed-requires-clause-front c = rw c.call_of-call.ensures
+    (has_front c.requires.past.1 c.in-Ready.ensures.copied c.in-Ready.ensures.law).prepared.front
 
-pub install-requires-clause-found : goal.install-requires-clause-found
-install-requires-clause-found c = (has_front c.requires.past.1 c.in-Ready.ensures.copied c.in-Ready.ensures.law).prepared.near
+pub install-installed-requires-clause-found : goal.install-installed-requires-clause-found
+install-installed-requires-clause-found c = (has_front c.requires.past.1 c.in-Ready.ensures.copied c.in-Ready.ensures.law).prepared.near
 
-pub install-requires-clause-noted : goal.install-requires-clause-noted
-install-requires-clause-noted c = rw c.call_of-call.ensures (has_front c.requires.past.1 c.in-Ready.ensures.copied c.in-Ready.ensures.law).prepared.noted
+pub install-installed-requires-clause-noted : goal.install-installed-requires-clause-noted
+install-installed-requires-clause-noted c = rw c.call_of-call.ensures
+    (has_front c.requires.past.1 c.in-Ready.ensures.copied c.in-Ready.ensures.law).prepared.noted
 
-pub install-requires-clause-unlocked : goal.install-requires-clause-unlocked
-install-requires-clause-unlocked c = copied_unlocked (has_front c.requires.past.1 c.in-Ready.ensures.copied c.in-Ready.ensures.law)
+pub install-installed-requires-clause-begun : goal.install-installed-requires-clause-begun
+install-installed-requires-clause-begun c = copied_begun (has_front c.requires.past.1 c.in-Ready.ensures.copied c.in-Ready.ensures.law)
 
-pub returns-in_default-install : goal.returns-in_default-install
-returns-in_default-install c = record {
-  turned = λ before m. lost_turn (has_front m c.in-Ready.ensures.copied c.in-Ready.ensures.law) c.in_default-install.ensures.installs c.in_default-install.ensures.law;
+pub install-installed-requires-clause-unlocked : goal.install-installed-requires-clause-unlocked
+install-installed-requires-clause-unlocked c = copied_unlocked (has_front c.requires.past.1 c.in-Ready.ensures.copied c.in-Ready.ensures.law)
+
+pub returns-in_default-installed : goal.returns-in_default-installed
+returns-in_default-installed c = record {
+  turned = λ before m. lost_turn (has_front m c.in-Ready.ensures.copied c.in-Ready.ensures.law) c.in_default-installed.ensures.installs c.in_default-installed.ensures.law;
 }
 
 pub clear_walk-requires : goal.clear_walk-requires
@@ -44,7 +49,7 @@ clear_walk-requires c = record {
 }
 
 pub release-requires-clause-ours : goal.release-requires-clause-ours
-release-requires-clause-ours c = walk_ours c.install.new.seat c.clear_walk.new.seat c.clear_walk.ensures.cleared
+release-requires-clause-ours c = walk_ours c.install-installed.new.seat c.clear_walk.new.seat c.clear_walk.ensures.cleared
     (installed_ours c.in-Installed.ensures.installs (copied_ours (has_front c.requires.past.1 c.in-Ready.ensures.copied c.in-Ready.ensures.law)))
 
 pub returns : goal.returns
