@@ -1,5 +1,6 @@
 -- How a call that gives its register a record begins, and how a store begins another turn.
-use Rattle.std.proofs.Common.{◌≡◌, ◌∙◌, ℕ, ◌-◌, ◌*◌, ◌<◌, ◌≤◌, ◌+◌, true, false, List, [], ◌++◌, Option, None, Some, unwrap_or, length, drop, length-append, refl, sym, ap, subst, arith, inl, inr, ⊎_elim}
+use Rattle.std.proofs.Common.{◌≡◌, ◌∙◌, ℕ, ◌-◌, ◌*◌, ◌<◌, ◌≤◌, ◌+◌, true, false, List, [], ◌++◌, Option}
+use Rattle.std.proofs.Common.{None, Some, unwrap_or, length, drop, length-append, refl, sym, ap, subst, arith, inl, inr, ⊎_elim}
 use Rattle.std.proofs.Math.Seq.{drop-append_seam}
 use Rattle.std.proofs.lemmas.Bool.{false≢true}
 use Rattle.big_atomic.proofs.Deciding.{first_at, store_agrees, store_gives, swap_gives}
@@ -131,7 +132,8 @@ module _ {shared : ObjectData} {reg version word seen : ℕ} {rec new : List ℕ
   store_again = record { at = again_at; turn = turn_behind l.at.past.steps s.steps h.1; claim = h.0.0.1; there = h.0.1; agrees = store_agrees reg rec new }
 
   -- and more was seen
-  pub turn_smaller : (old : View) → old.plan ≡ b.before.view.plan → length old.seen ≡ seen → now.view.plan.seats * now.view.plan.changes - length now.view.seen < old.plan.seats * old.plan.changes - length old.seen
+  pub turn_smaller : (old : View) → old.plan ≡ b.before.view.plan → length old.seen ≡ seen
+      → now.view.plan.seats * now.view.plan.changes - length now.view.seen < old.plan.seats * old.plan.changes - length old.seen
   turn_smaller old plan is =
       let same : now.view.plan ≡ old.plan = ap (λ (z : View). z.plan) again_at.past.calling.goes.only ∙ sym plan in
       let longer = l.longer in

@@ -268,7 +268,8 @@ module _ {shared : ObjectData} {reg : ℕ} {new : List ℕ} {done : Reply} {call
       end_there =
           let none : is_change (state_at now.view.seen (length now.view.seen)) call ≡ false = d.agrees.changes (state_at now.view.seen (length now.view.seen)) d.there ∙ ap not same in
           tells d.at (length now.view.seen) done d.at.past.calling.looked.upto
-          (right_at now.view (length now.view.seen) call done (omega arith) (legal_now d.at.past) (d.agrees.says now.view.plan (stock now.view) (state_at now.view.seen (length now.view.seen)) (take (length now.view.seen) now.view.seen)
+          (right_at now.view (length now.view.seen) call done (omega arith) (legal_now d.at.past) (d.agrees.says now.view.plan (stock now.view)
+          (state_at now.view.seen (length now.view.seen)) (take (length now.view.seen) now.view.seen)
           (held_by now.view.seen (number now.view) now.view.stands) d.there)
           (sym (ap (λ (c : Bool). c && not (is_full done)) none)))
           b.gives.not_full
@@ -286,7 +287,8 @@ pub record HasRoomFor {shared : ObjectData} {reg : ℕ} {new : List ℕ} {done :
   pub changes : is_change (state_at now.view.seen (length now.view.seen)) call ≡ true
   pub free : 0 < length now.free
 
-module _ {shared : ObjectData} {reg : ℕ} {new : List ℕ} {done : Reply} {call : Call} {b : Begun shared reg new done call} {version word : ℕ} {rec : List ℕ} {u : SeatData} (d : HasDecided b version word rec u) where
+module _ {shared : ObjectData} {reg : ℕ} {new : List ℕ} {done : Reply} {call : Call} {b : Begun shared reg new done call} {version word : ℕ} {rec : List ℕ} {u : SeatData}
+    (d : HasDecided b version word rec u) where
   -- where none was, this is the call's first turn
   pub turn_first : u.free ≡ [] → OnlyLooked d.at.past.steps b.before u
   turn_first none = ⊎_elim (λ o. o) (λ t. absurd (let free = t.1 in omega (arith, ap (length {A = ℕ}) none))) d.at.turn

@@ -20,7 +20,8 @@ use Rattle.step_rules.specs.World.{has}
 use Rattle.step_rules.specs.declared.plan.Plan.{Plan}
 use Rattle.step_rules.specs.declared.view.Counted.{Counted}
 use Rattle.step_rules.specs.declared.view.Kind.{Kind}
-use Rattle.step_rules.specs.declared.view.Kind.TheVariants.{NodeStore, NodeLoad, BackupLoad, BackupExchange, ClaimStore, Recheck, ClaimClear, ScanLoad, VersionLoad, InlineLoad, VersionAgain, VersionLock, InlineStore, VersionRelease, MarkClear}
+use Rattle.step_rules.specs.declared.view.Kind.TheVariants.{NodeStore, NodeLoad, BackupLoad, BackupExchange, ClaimStore, Recheck, ClaimClear, ScanLoad}
+use Rattle.step_rules.specs.declared.view.Kind.TheVariants.{VersionLoad, InlineLoad, VersionAgain, VersionLock, InlineStore, VersionRelease, MarkClear}
 use Rattle.step_rules.specs.declared.view.Stand.{Stand}
 use Rattle.big_atomic.specs.Calling.{Costs}
 use Rattle.step_rules.specs.declared.view.View.{View}

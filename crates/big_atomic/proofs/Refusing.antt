@@ -41,8 +41,10 @@ first_refused reg old new from v u =
     subst (λ (n : ℕ). IsFirst reg old v.seen from n (refused_at from (Swap reg old new) v)) (let e : from + (length v.seen - from) ≡ length v.seen = omega arith in e)
     (first_is reg old v.seen from (length v.seen - from) u.place late (omega arith) u.unlike)
 
-right_no : (v : View) (q reg : ℕ) (old new : List ℕ) → q ≤ length v.seen → reg < v.plan.registers → is_same (register_at v q reg) old ≡ false → IsRight v.plan v.seen v.stands (reading q (Swap reg old new) No v)
-right_no v q reg old new within there other = right_at v q (Swap reg old new) No within (record { there = there; may = tt }) (ap (λ (b : Bool). cond b Yes No) other) (sym (ap (λ (b : Bool). (b && not (is_same old new)) && true) other))
+right_no : (v : View) (q reg : ℕ) (old new : List ℕ) → q ≤ length v.seen → reg < v.plan.registers → is_same (register_at v q reg) old ≡ false
+    → IsRight v.plan v.seen v.stands (reading q (Swap reg old new) No v)
+right_no v q reg old new within there other = right_at v q (Swap reg old new) No within (record { there = there; may = tt })
+    (ap (λ (b : Bool). cond b Yes No) other) (sym (ap (λ (b : Bool). (b && not (is_same old new)) && true) other))
 
 module _ {shared : ObjectData} {reg : ℕ} {old new : List ℕ} {b : Begun shared reg new Yes (Swap reg old new)} {q : ℕ} {now : SeatData} (once : IsOnce q b) (o : HasOther b old now) where
   -- its first look is q
@@ -53,7 +55,8 @@ module _ {shared : ObjectData} {reg : ℕ} {old new : List ℕ} {b : Begun share
   first = first_refused reg old new q now.view (subst (λ n. IsUnlike reg old n now.view) once.look_is o.unlike)
 
   end : MayEnd reg b.look place (Swap reg old new) No o.at.past.steps b.before now
-  end = tells o.at place No (let late = first.late in let is = once.look_is in omega arith) (right_no now.view place reg old new first.within (there_now o.at.past) first.unlike) (λ need free e. absurd cc)
+  end = tells o.at place No (let late = first.late in let is = once.look_is in omega arith) (right_no now.view place reg old new first.within
+      (there_now o.at.past) first.unlike) (λ need free e. absurd cc)
 
   pub may_refuse : {mid : SeatData} → IsReleased Back now mid → MayAnswer (refused_at q (Swap reg old new) mid.view) (Swap reg old new) No mid
   may_refuse released = subst (λ (z : SeatData). MayAnswer (refused_at q (Swap reg old new) z.view) (Swap reg old new) No z) (sym released)

@@ -53,7 +53,8 @@ pub record IsShort {shared : ObjectData} {reg : ℕ} {new : List ℕ} {done : Re
   pub room : HasRoom false u w
   pub law : IsSeat w
 
-module _ {shared : ObjectData} {reg : ℕ} {new : List ℕ} {done : Reply} {call : Call} {b : Begun shared reg new done call} {version word : ℕ} {rec : List ℕ} {u w : SeatData} (s : IsShort b version word rec u w) where
+module _ {shared : ObjectData} {reg : ℕ} {new : List ℕ} {done : Reply} {call : Call} {b : Begun shared reg new done call} {version word : ℕ} {rec : List ℕ} {u w : SeatData}
+    (s : IsShort b version word rec u w) where
   abbrev p : Past b 0 (WIDTH + 5) u
   p = s.decided.at.past
 

@@ -11,7 +11,8 @@ use Rattle.big_atomic.proofs.Balance.{balance, removes_spent}
 use Rattle.big_atomic.proofs.Ending.{EndsBy}
 use Rattle.big_atomic.proofs.Goings.{calling_then, drop_parts, held_stays, looked_more}
 use Rattle.big_atomic.proofs.Marking.{version_more}
-use Rattle.big_atomic.proofs.Paid.{changes-append, exchanges-append, lost-append, paid_kept, paid_more, paid_still, paid_then, rounds-append, saw_within, scan_loads-append, still_exchanges, still_lost, still_rounds}
+use Rattle.big_atomic.proofs.Paid.{changes-append, exchanges-append, lost-append, paid_kept, paid_more, paid_still, paid_then}
+use Rattle.big_atomic.proofs.Paid.{rounds-append, saw_within, scan_loads-append, still_exchanges, still_lost, still_rounds}
 use Rattle.big_atomic.specs.Calling.{Calling, HasWon, Costs, Paces}
 use Rattle.big_atomic.specs.Calls.{HoldStays}
 use Rattle.big_atomic.specs.Marks.{HasVersion, Tries}

@@ -289,7 +289,13 @@ module _ {shared : ObjectData} {key : KeyWords} {cell : ℕ} {before mid : SeatD
   lost_finding now l = finding_on cell l.steps before mid now c.finding c.finding.paced l.part (omega arith)
 
   pub claimed_again : (word : ℕ) (lost now : SeatData) → Lost cell mid lost → HasClaimed BACK cell word lost now → Claimed shared key cell before now
-  claimed_again word lost now l h = record { begun = c.begun; finding = finding_again cell word before lost now (lost_finding lost l) (paces_then c.finding.paced l.part.paced) h.0; word = word; claim = h.1 }
+  claimed_again word lost now l h = record {
+    begun = c.begun;
+    finding = finding_again cell word before lost now (lost_finding lost l)
+        (paces_then c.finding.paced l.part.paced) h.0;
+    word = word;
+    claim = h.1;
+  }
 
   pub fewer : (word : ℕ) (lost now : SeatData) → Lost cell mid lost → HasClaimed BACK cell word lost now
       → now.view.plan.seats * now.view.plan.changes - length now.view.seen < mid.view.plan.seats * mid.view.plan.changes - length mid.view.seen

@@ -1,5 +1,6 @@
 -- The turns of a change, from one claim of its bucket's node to the next.
-use Rattle.std.proofs.Common.{◌≡◌, ◌∙◌, ℕ, ◌+◌, ◌*◌, ◌-◌, ◌/◌, ◌^◌, ◌<◌, ◌≤◌, Bool, true, false, List, ◌++◌, Option, None, Some, length, take, drop, refl, sym, ap, subst, arith, ◌⊎◌, inl, ⊎_elim, is_some}
+use Rattle.std.proofs.Common.{◌≡◌, ◌∙◌, ℕ, ◌+◌, ◌*◌, ◌-◌, ◌/◌, ◌^◌, ◌<◌, ◌≤◌, Bool, true, false, List, ◌++◌}
+use Rattle.std.proofs.Common.{Option, None, Some, length, take, drop, refl, sym, ap, subst, arith, ◌⊎◌, inl, ⊎_elim, is_some}
 use Rattle.chain_links.proofs.Another.{none_of_on}
 use Rattle.std.proofs.Math.Nat.{le-max_right}
 use Rattle.std.proofs.lemmas.Bool.{false≢true}

@@ -88,7 +88,8 @@ link_still words only n =
     subst (λ (z : ℕ × List Held). has (nodes_of (drop 1 z.1)) z.0 ≡ true) (λ i. (link_is i, ap (λ (x : Claim). x.pages) (sym (only_back only)) i)) n.page
 
 -- A COPY AT ITS START
-module _ {cell first head : ℕ} {words : List ℕ} {before read now : SeatData} (law : IsSeat before) (b : HasBack cell before.view) (unchanged : MadeNoChange cell before.view) (some_there : 0 < length (claimed_records before.view))
+module _ {cell first head : ℕ} {words : List ℕ} {before read now : SeatData} (law : IsSeat before) (b : HasBack cell before.view)
+    (unchanged : MadeNoChange cell before.view) (some_there : 0 < length (claimed_records before.view))
     (idle : before.holding ≡ []) (none : before.noted ≡ []) (first_is : first ≡ b.node) (reading : IsRead first words before read) (sound : Sound read.view)
     (taking : IsTaken head read now) (last : IsSeat now) where
   on : On (claim_of BACK before.view) first

@@ -11,7 +11,8 @@ use Rattle.step_rules.specs.Kinds.Versions.{EndsRead}
 use Rattle.step_rules.specs.Kinds.Walking.{WalkRechecks}
 use Rattle.step_rules.specs.Layout.{backup_at, claim_at, inline_at, node_at, version_at}
 use Rattle.step_rules.specs.Sound.{Sound}
-use Rattle.step_rules.specs.Views.{again_view, announced_view, claim_of, cleared_view, copied_view, inline_view, locked_view, missed_view, number, released_view, scanned_view, loaded_view, stood_view, stored_view, version_view}
+use Rattle.step_rules.specs.Views.{again_view, announced_view, claim_of, cleared_view, copied_view, inline_view, locked_view, missed_view}
+use Rattle.step_rules.specs.Views.{number, released_view, scanned_view, loaded_view, stood_view, stored_view, version_view}
 use Rattle.step_rules.specs.declared.layout.TheConstants.{CLAIMS, NODE_WIDTH}
 use Rattle.step_rules.specs.declared.view.Kind.TheVariants.{BackupLoad, BackupExchange, MarkClear}
 use Rattle.step_rules.specs.declared.view.View.{View}

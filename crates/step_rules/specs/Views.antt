@@ -16,7 +16,8 @@ use Rattle.step_rules.specs.declared.view.Claim.{Claim}
 use Rattle.step_rules.specs.declared.view.Counted.{Counted}
 use Rattle.step_rules.specs.declared.view.Held.{Held}
 use Rattle.step_rules.specs.declared.view.Kind.{Kind}
-use Rattle.step_rules.specs.declared.view.Kind.TheVariants.{NodeStore, NodeLoad, BackupLoad, BackupExchange, ClaimStore, Recheck, ClaimClear, ScanLoad, VersionLoad, InlineLoad, VersionAgain, VersionLock, InlineStore, VersionRelease}
+use Rattle.step_rules.specs.declared.view.Kind.TheVariants.{NodeStore, NodeLoad, BackupLoad, BackupExchange, ClaimStore, Recheck, ClaimClear}
+use Rattle.step_rules.specs.declared.view.Kind.TheVariants.{ScanLoad, VersionLoad, InlineLoad, VersionAgain, VersionLock, InlineStore, VersionRelease}
 use Rattle.step_rules.specs.declared.view.Look.{Look}
 use Rattle.step_rules.specs.declared.view.Reader.{Reader}
 use Rattle.step_rules.specs.declared.view.Scan.{Scan}

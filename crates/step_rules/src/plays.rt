@@ -1,5 +1,6 @@
 //! What each kind of atomic step tells its caller.
-ghost use Rattle.step_rules.specs.Plays.{announced, cleared, copied, exchanged, glanced, inline_loaded, loaded, loaded_again, locked, looked, rechecked_any, released, scanned, settled, stood, stored, unmarked, version_loaded};
+ghost use Rattle.step_rules.specs.Plays.{announced, cleared, copied, exchanged, glanced, inline_loaded, loaded, loaded_again, locked};
+ghost use Rattle.step_rules.specs.Plays.{looked, rechecked_any, released, scanned, settled, stood, stored, unmarked, version_loaded};
 ghost use Rattle.step_rules.specs.Views.{joined_view, left_view, right_view, spent_view};
 
 use crate::place::{Place, Rechecking, Telling};

@@ -95,7 +95,8 @@ abbrev Gives : BatchPlan → State ℕ BatchView → ℕ → Me ℕ BatchView �
 Gives p s id me x n then = (w : BatchView) × (a : Act ℕ) × Valid s.homes me.1 a × Holds p (stepped s 0 n id me.1 w a) × then x (w, carried_after me.1 a)
 
 -- the view w after a step on the cursor, lawful since it is a view of the table after it
-lawful_after : (p : BatchPlan) (s : State ℕ BatchView) (id : ℕ) (v w : BatchView) (n : ℕ) (c : List (ℕ × ℕ)) → get_elem? s.views id ≡ some v → 0 < length w.numbers → Holds p (stepped s 0 n id c w keeps) → IsLawful w
+lawful_after : (p : BatchPlan) (s : State ℕ BatchView) (id : ℕ) (v w : BatchView) (n : ℕ) (c : List (ℕ × ℕ)) → get_elem? s.views id ≡ some v → 0 < length w.numbers
+    → Holds p (stepped s 0 n id c w keeps) → IsLawful w
 lawful_after p s id v w n c at some_number r = lawful_in p (stepped s 0 n id c w keeps) r id w (set_at s.views id v w at) some_number
 
 module _ (p : BatchPlan) (slots id : ℕ) (me : Me ℕ BatchView) (same : me.0.plan ≡ p) (some_number : 0 < length me.0.numbers) where

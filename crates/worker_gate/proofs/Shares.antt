@@ -1,5 +1,6 @@
 -- The start, a split and a join keep the rule.
-use Rattle.std.proofs.Common.{◌≡◌, ℕ, ◌-◌, ◌<◌, List, [], ◌∷◌, length, min, set, take, drop, zero, suc, sym, refl, ap, ◌∙◌, subst, arith, Bool, true, false, ◌||◌, ⊎_elim, length-append, length-take, length-drop, true≢false}
+use Rattle.std.proofs.Common.{◌≡◌, ℕ, ◌-◌, ◌<◌, List, [], ◌∷◌, length, min, set, take, drop, zero, suc, sym}
+use Rattle.std.proofs.Common.{refl, ap, ◌∙◌, subst, arith, Bool, true, false, ◌||◌, ⊎_elim, length-append, length-take, length-drop, true≢false}
 use mathlib.Core.Option.{some, some-injective}
 use lib.ListN.{get_elem?}
 use Rattle.atomic_table.specs.Table.{Joins, Splits, opening}
@@ -98,7 +99,14 @@ joins p id v other w quiet quiet_too some_number s r at apart at' =
       words = r.words;
       drawn = λ n. omega (arith, total_set (λ x. times n x.drawn) views other w spent_view at', total_set (λ x. times n x.drawn) s.views id v b at, r.drawn n, times_append n v.drawn w.drawn);
       past = omega (arith, total_set (λ x. x.late) views other w spent_view at', total_set (λ x. x.late) s.views id v b at, r.past);
-      numbers = λ n. omega (arith, total_set (λ x. times n x.numbers) views other w spent_view at', total_set (λ x. times n x.numbers) s.views id v b at, r.numbers n, times_append n v.numbers w.numbers);
+      numbers = λ n. omega (
+        arith,
+        total_set (λ x. times n x.numbers) views other w spent_view at',
+        total_set
+            (λ x. times n x.numbers) s.views id v b at,
+        r.numbers n,
+        times_append n v.numbers w.numbers,
+      );
       held = omega (arith, total_set (λ x. length x.numbers) views other w spent_view at', total_set (λ x. length x.numbers) s.views id v b at, r.held);
       each = λ j x e. ⊎_elim (λ y. subst (SeatHolds p r.cursor) y.1 spent) (λ y. ⊎_elim (λ z. subst (SeatHolds p r.cursor) z.1 both) (λ z. r.each j x z.1) (at_set s.views id j b x y.1))
           (at_set views other j spent_view x e);

@@ -150,7 +150,8 @@ module _ (m : Moment) (c k y : ℕ) (x : Claim) (inside : k < cells m.view.plan)
   same_word = is_set (world m).word (world m).word place x.word (seen_seat.claims.word c (claim_of c m.view) m.numbered (claim_found seen_seat.claims c low) ∙ named) (λ w ne. refl)
 
   pub stands_then : Made m m.ws (record looked { claims = set m.view.claims c x })
-  stands_then = turn m m.ws looked.trail looked.writer (record { ok = seen_seat; numbered = m.numbered; inside = low; may = may }) seen_seat.trail seen_seat.versions (writer_claimed m.view.claims c x apart seen_seat.writer) refl m.rule.wide
+  stands_then = turn m m.ws looked.trail looked.writer
+      (record { ok = seen_seat; numbered = m.numbered; inside = low; may = may }) seen_seat.trail seen_seat.versions (writer_claimed m.view.claims c x apart seen_seat.writer) refl m.rule.wide
       (λ j. record (world m) { word = same_word j; guard = set_at (world m).guard place (stood_in x) })
 
 -- a recheck that found the node that the claim names

@@ -29,7 +29,8 @@ use Rattle.step_rules.specs.declared.view.Scan.{Scan}
 use Rattle.step_rules.specs.declared.view.View.{View}
 
 -- a step that is counted, and moves at most the scan
-pub counted_ok : (p : Plan) (W : World) (id : ℕ) (v : View) (made : Counted) (scan : Scan) → SeatOk p W id v → made.seen ≡ length v.seen → ((k : ℕ) → made.kind ≢ VersionLoad k) → SeatScan p W.guard scan v.retired
+pub counted_ok : (p : Plan) (W : World) (id : ℕ) (v : View) (made : Counted) (scan : Scan) → SeatOk p W id v → made.seen ≡ length v.seen
+    → ((k : ℕ) → made.kind ≢ VersionLoad k) → SeatScan p W.guard scan v.retired
     → SeatOk p W id (record v { trail = v.trail ++ made ∷ []; scan = scan })
 counted_ok p W id v made scan ok seen other scan_ok = record {
   plan = ok.plan;

@@ -216,11 +216,13 @@ module _ {p : Plan} {W : World} {id : ℕ} {v : View} {c : ℕ} {x : Claim} (t :
     kept = λ d n s. each_claim v.claims c x (λ e y. On y n → W.class n ≡ Own s → (e ≡ OWN) × (s ≡ id)) (t.may.kept n s) (λ e y _. k.kept e n s y) d;
     calm = λ d n. each_claim v.claims c x (λ e y. Tells e → On y n → W.backup y.cell / 2 ≡ n → NoneOn p y.cell (drop y.at W.log)) (t.may.calm n) (λ e y _ at. k.calm e n y at) d;
     pages = λ d n. each_claim v.claims c x (λ e y. Tells e → On y n → W.backup y.cell / 2 ≡ n → W.chain y.cell ≡ y.pages) (t.may.pages n) (λ e y _ at. k.pages e n y at) d;
-    stays = λ d n. each_claim v.claims c x (λ e y. Tells e → On y n → NoneOn p y.cell (drop y.at W.log) → W.backup y.cell / 2 ≡ n) (λ tells on _. t.may.stays n tells on) (λ e y _ at. k.stays e n y at) d;
+    stays = λ d n. each_claim v.claims c x (λ e y. Tells e → On y n → NoneOn p y.cell (drop y.at W.log)
+        → W.backup y.cell / 2 ≡ n) (λ tells on _. t.may.stays n tells on) (λ e y _ at. k.stays e n y at) d;
   }
 
   -- the seat's claim is x then, and nothing else changes that the rule speaks of but the counted steps
-  pub turned_seat : (trail : List Counted) (writer : Writer) → IsTrail v.since trail v.seen → SeatVersions W.version trail → SeatWriter p (sites W) id v.seen (get_or (set v.claims c x) OWN (silent 0)) writer
+  pub turned_seat : (trail : List Counted) (writer : Writer) → IsTrail v.since trail v.seen → SeatVersions W.version trail
+      → SeatWriter p (sites W) id v.seen (get_or (set v.claims c x) OWN (silent 0)) writer
       → SeatOk p turned id (record v { claims = set v.claims c x; trail = trail; writer = writer })
   turned_seat trail writer counts versions flight = record {
     plan = t.ok.plan;

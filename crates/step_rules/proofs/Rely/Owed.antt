@@ -24,7 +24,8 @@ use Rattle.step_rules.specs.Kinds.Standing.{MayStand}
 use Rattle.step_rules.specs.Kinds.Versions.{MayCopy, MayEndRead, MayLock, MayRead, MayRelease, MayUnmark}
 use Rattle.step_rules.specs.Kinds.Walking.{MayRecheck}
 use Rattle.step_rules.specs.Layout.{cells, backup_at, claim_at, inline_at, node_at, version_at, words}
-use Rattle.step_rules.specs.Plays.{Mine, announced, cleared, copied, exchanged, glanced, inline_loaded, loaded, loaded_again, locked, looked, rechecked, rechecked_any, released, scanned, settled, stood, stored, unmarked, version_loaded, walked}
+use Rattle.step_rules.specs.Plays.{Mine, announced, cleared, copied, exchanged, glanced, inline_loaded, loaded, loaded_again, locked, looked}
+use Rattle.step_rules.specs.Plays.{rechecked, rechecked_any, released, scanned, settled, stood, stored, unmarked, version_loaded, walked}
 use Rattle.step_rules.specs.Rule.{Holds}
 use Rattle.step_rules.specs.SeatData.{IsOf, ObjectData, SeatData}
 use Rattle.step_rules.specs.Steps.{IsUnannounced}
@@ -101,7 +102,8 @@ module _ (key : Plan) (slots id : ℕ) (me : Mine) (place : ℕ) (numbered : 0 <
       (λ i. (ours i, sym at i, sym is i))
       (announces slots id me c n numbered may)
 
-  pub clear_call : (c : ℕ) → place ≡ claim_at (number me.0) c → c < CLAIMS → (c ≡ OWN → me.0.writer.stage ≢ Locked) → Allows (Holds key) slots id me place (λ _. 0) (λ _. cleared (step slots place 0 0 none) me 0)
+  pub clear_call : (c : ℕ) → place ≡ claim_at (number me.0) c → c < CLAIMS → (c ≡ OWN → me.0.writer.stage ≢ Locked)
+      → Allows (Holds key) slots id me place (λ _. 0) (λ _. cleared (step slots place 0 0 none) me 0)
   clear_call c at inside unlocked = subst (λ (z : Plan × ℕ). Allows (Holds z.0) slots id me z.1 (λ _. 0) (λ _. cleared (step slots z.1 0 0 none) me 0)) (λ i. (ours i, sym at i))
       (clears slots id me c numbered inside unlocked)
 

@@ -71,7 +71,8 @@ module _ (p : Plan) (ws : List ℕ) (U : Unwritten) (h : HoldsAt p ws (starting 
   claim_zero x c lt inside =
       let mine = has_count 0 p.seats x (omega arith) (omega arith) in
       ⊎_elim
-      (λ e. ap (λ y. claim_word p ws (claim_at y c)) e ∙ o.claims.word c (silent 0) (any_number (count_up 0 p.seats) x mine) (claim_found o.claims c inside ∙ ap some (get_or_replicate_same CLAIMS c (silent 0))))
+      (λ e. ap (λ y. claim_word p ws (claim_at y c)) e ∙ o.claims.word c (silent 0) (any_number (count_up 0 p.seats) x mine) (claim_found o.claims c inside
+      ∙ ap some (get_or_replicate_same CLAIMS c (silent 0))))
       (λ ne. (o.claims.others x c mine ne inside).0)
       (cases_eq x (number (starting p)))
 

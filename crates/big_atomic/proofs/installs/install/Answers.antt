@@ -1,5 +1,6 @@
 use Rattle.big_atomic.proofs.Ending.{released_ours, released_stands}
-use Rattle.big_atomic.proofs.Installed.{announced_ours, exchange_unlocked, exchanged_ours, front_announced, has_moved, may_announce_front, may_announced, near_announced, noted_announced, refreshed_ours, tries_mark, won_flight, won_version}
+use Rattle.big_atomic.proofs.Installed.{announced_ours, exchange_unlocked, exchanged_ours, front_announced, has_moved, may_announce_front, may_announced}
+use Rattle.big_atomic.proofs.Installed.{near_announced, noted_announced, refreshed_ours, tries_mark, won_flight, won_version}
 use Rattle.hazard_claims.specs.declared.claims.Claim.TheVariants.{Own}
 use Rattle.big_atomic.proofs.installs.install.Goals as goal
 

@@ -20,7 +20,12 @@ store-requires c =
       m.within _ c.claim_place-place.ensures.1,
       claim_call _ _ _ _ _ t.sound.some_number m.key_is c.args.claim n _ (c.claim_place-place.ensures.0 ∙ ap (λ x. claim_at x c.args.claim) c.seat.invariant.1)
           (ap (λ k. k + 1) c.from-word.ensures)
-          (record { claim = may.claim; own = λ is. own_held n (nodes_of c.seat.inside.inner.me.0.own) c.seat.inside.free.items c.seat.inside.holding.items (t.lists n) (may.own is); unlocked = may.unlocked }),
+          (record {
+            claim = may.claim;
+            own = λ is. own_held n (nodes_of c.seat.inside.inner.me.0.own) c.seat.inside.free.items c.seat.inside.holding.items
+                (t.lists n) (may.own is);
+            unlocked = may.unlocked;
+          }),
     )
 
 pub invariant_of-seat : goal.invariant_of-seat
