@@ -1,6 +1,5 @@
 -- Tries at a cell's mark: the version that a change goes by, and what its refresh leaves.
-use Rattle.std.proofs.Common.{◌≡◌, ◌≢◌, ◌∙◌, ℕ, ◌+◌, ◌*◌, ◌^◌, ◌≤◌, suc, List, [], ◌∷◌, ◌++◌, length}
-use Rattle.std.proofs.Common.{take, drop, append-nil, append_assoc, length-append, refl, sym, ap, subst, arith, inl, inr, ⊎_elim}
+use Rattle.std.proofs.Common.{◌≡◌, ◌∙◌, ℕ, ◌+◌, ◌≤◌, suc, List, [], ◌∷◌, ◌++◌, length, take, drop, append-nil, append_assoc, length-append, refl, sym, ap, subst, arith, inl, inr, ⊎_elim}
 use Rattle.std.proofs.lemmas.List.{drop-append-le, take-append-drop}
 use Rattle.big_atomic.proofs.Ending.{EndsBy}
 use Rattle.big_atomic.proofs.Paid.{AreStill, lost-append, scan_loads-append, still-append}

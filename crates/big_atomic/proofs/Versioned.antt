@@ -9,7 +9,6 @@ use Rattle.big_atomic.proofs.Pacing.{paces_still, paces_then}
 use Rattle.big_atomic.proofs.Paid.{lost-append, paid_cons, still_lost}
 use Rattle.big_atomic.specs.Calling.{Goes, HasFound, HasRead, HasSeen, HasStarted, HasStartedRecord, HasTurned, IsLooked, LookedOnce, OnlySteps, Stays, turn_steps}
 use Rattle.big_atomic.specs.Marks.{HasVersion}
-use Rattle.big_atomic.specs.Turns.{lost_steps}
 use Rattle.hazard_claims.specs.declared.answers.Recheck.TheVariants.{Other, Same}
 use Rattle.node_pool.specs.Pool.{load_steps}
 use Rattle.step_rules.specs.Claims.{BACK}

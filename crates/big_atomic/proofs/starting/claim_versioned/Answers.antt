@@ -1,4 +1,4 @@
-use Rattle.std.proofs.Common.{None, arith}
+use Rattle.std.proofs.Common.{None}
 use Rattle.big_atomic.proofs.Answered.{goes_of}
 use Rattle.big_atomic.proofs.Versioned.{again_ours, begin_ours, start_again, start_claimed, start_first, start_smaller}
 use Rattle.big_atomic.proofs.starting.claim_versioned.Goals as goal
