@@ -5,6 +5,7 @@ ghost use Rattle.seat_history.specs.Object.{MayCall, NamesBelow};
 ghost use Rattle.step_rules.specs.Layout.{IsPlan};
 ghost use Rattle.step_rules.specs.SeatData.{IsOf};
 
+mod copies;
 mod threads;
 
 use crate::{Stored, Swap, compare_and_swap, hold, load, look, release_hold, store};

@@ -1,0 +1,32 @@
+//! The inline words that changes leave.
+ghost use Rattle.step_rules.specs.SeatData.{IsOf};
+
+use super::{opened, plan, play, set, split, swap};
+use cache_copy::{Inline, read_inline};
+use seat_history::Reply;
+use std::process::Abort;
+use std::test::Fail;
+use step_rules::{NODE_WIDTH, Seat, Shared};
+
+// What a read of the first register's inline words answers.
+fn copy_of(rt: &impl Abort, shared: &Shared, seat: &mut Seat) -> Inline
+    requires ours { IsOf shared.now seat.old }
+    ensures ours { IsOf shared.now seat.new }
+{
+    assert!(rt; 0 < shared.plan().registers);
+    read_inline(shared, seat, 0)
+}
+
+#[test]
+fn changes_that_meet_no_other_leave_good_copies(rt: HostRuntime) -> Result<(), Fail> {
+    let (shared, mut first) = opened(rt.alloc(), &plan(&rt, 2, 2, 1, 10))?;
+    let mut second = split(&rt, rt.alloc(), &shared, &mut first)?;
+    let rows = [(set(1), Reply::Done), (swap(1, 2), Reply::Yes)];
+    play(&rt, &shared, &mut first, &rows);
+    play(&rt, &shared, &mut second, &[(swap(2, 3), Reply::Yes)]);
+    let copy = copy_of(&rt, &shared, &mut first);
+    let mut words = [0; NODE_WIDTH];
+    words[0] = 3;
+    assert_eq!(rt; copy, Inline::Words(words));
+    Ok(())
+}
