@@ -1,3 +1,4 @@
 pub mod Carrying
 pub mod Coming
 pub mod Ends
+mod Leading
