@@ -1,4 +1,4 @@
-ghost use Rattle.std.specs.Prelude.{◌+◌, ◌<◌, ◌^◌, [], ◌∷◌, OnOk};
+ghost use Rattle.std.specs.Prelude.{◌+◌, ◌<◌, ◌≡◌, ◌^◌, [], ◌∷◌, OnErr, OnOk};
 
 use flow_fold::{Key, Value, key_of, value_of};
 use netflow_five::{Collector, Datagram};
@@ -25,10 +25,11 @@ impl Gathered {
         }
     }
 
-    /// Adds the records of a datagram.
+    /// Adds the records of a datagram. Where memory runs out, nothing is added.
     fn add_datagram(&mut self, datagram: &Datagram<'_>) -> Result<(), NoMemory>
         requires { self.old.datagrams + 1 < 2 ^ 64 }
-        ensures { OnOk result (Adds (datagram.now.bytes.now ∷ []) self.old self.new) }
+        ensures adds { OnOk result (Adds (datagram.now.bytes.now ∷ []) self.old self.new) }
+        ensures kept { OnErr result ((self.new.pairs.items ≡ self.old.pairs.items) × (self.new.datagrams ≡ self.old.datagrams)) }
     {
         self.pairs.reserve(datagram.count() as usize)?;
         for i in 0..datagram.count() {

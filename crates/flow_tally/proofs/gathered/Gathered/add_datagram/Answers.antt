@@ -32,8 +32,8 @@ loop-i-preserved c =
       datagrams = c.loop-i.invariant.datagrams;
     }
 
-pub returns : goal.returns
-returns c =
+pub returns-clause-adds : goal.returns-clause-adds
+returns-clause-adds c =
     let d = c.args.datagram.now.bytes.now in
     let all : c.loop-i.i ≡ count_of d = omega (arith, c.count-i-end.ensures, c.loop-i-test.false, c.loop-i.auto.i-end) in
     record {
