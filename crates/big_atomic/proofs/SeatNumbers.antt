@@ -1,5 +1,5 @@
 -- The numbers of an object's seats, from splitting to joining.
-use Rattle.std.proofs.Common.{◌≡◌, ℕ, ◌<◌, suc, List, [], ◌∷◌, ◌++◌, All, length, map, refl, ap, ◌∙◌, arith, slice_index, slice_index_or}
+use Rattle.std.proofs.Common.{◌≡◌, ℕ, ◌<◌, suc, true, List, [], ◌∷◌, ◌++◌, All, length, map, refl, ap, ◌∙◌, arith, slice_index, slice_index_or}
 use Rattle.std.proofs.lemmas.List.Elements.{All-head, All-tail}
 use Rattle.big_atomic.specs.Seats.{AreLed, AreSplit, IsUnused, all_numbers}
 use Rattle.step_rules.specs.SeatData.{ObjectData, SeatData}
@@ -24,6 +24,11 @@ built_numbers built = ap (λ (s : SeatData). s.view.numbers) built.seat
 -- the seats of a new object have all numbers
 pub split_numbers : {p : Plan} {shared : ObjectData} {seat : SeatData} {seats : List SeatData} → IsBuilt p shared seat → AreSplit shared seat seats → all_numbers seats ≡ count_up 0 p.seats
 split_numbers {shared = shared} {seats = seats} built split = alone shared seats split.unused ∙ (split.numbers ∙ built_numbers built)
+
+-- the first of them takes in the others, where the seat that was split does
+pub split_led : {shared : ObjectData} {seat : SeatData} (seats : List SeatData) → AreSplit shared seat seats → 0 < length seat.view.numbers → seat.first ≡ true → AreLed seats
+split_led [] split more first = absurd (omega (arith, split.count, more))
+split_led (s ∷ later) split more first = split.first s later refl ∙ first
 
 pub themselves : (seats : List SeatData) → map (λ (s : SeatData). s) seats ≡ seats
 themselves [] = refl

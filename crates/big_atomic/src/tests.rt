@@ -6,6 +6,7 @@ ghost use Rattle.step_rules.specs.Layout.{IsPlan};
 ghost use Rattle.step_rules.specs.SeatData.{IsOf};
 
 mod copies;
+mod small_shares;
 mod threads;
 
 use crate::{Stored, Swap, compare_and_swap, hold, load, look, release_hold, store};

@@ -5,6 +5,7 @@ ghost use Rattle.step_rules.specs.Layout.{IsPlan};
 ghost use Rattle.step_rules.specs.SeatData.{IsOf};
 
 mod scripts;
+mod small_shares;
 mod threads;
 
 use crate::{

@@ -1,4 +1,3 @@
 pub mod Carrying
 pub mod Coming
 pub mod Ends
-mod Leading

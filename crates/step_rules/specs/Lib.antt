@@ -15,6 +15,7 @@ pub mod Nodes
 pub mod Order
 pub mod Plays
 pub mod Readers
+pub mod Recent
 pub mod Records
 pub mod Rule
 pub mod Scans

@@ -8,6 +8,7 @@ ghost use Rattle.step_rules.specs.Flights.{FlightsAgree, LaterFound, ReadsAgree,
 ghost use Rattle.step_rules.specs.History.{IsHistory};
 ghost use Rattle.step_rules.specs.Line.{CanBeCalledAlong, line_of};
 ghost use Rattle.step_rules.specs.Order.{AreRecordsOf, NeedsByOrder};
+ghost use Rattle.step_rules.specs.Recent.{LooksAreRecent};
 ghost use Rattle.step_rules.specs.Records.{records_at};
 ghost use Rattle.step_rules.specs.SeatData.{IsSeat, SeatData};
 ghost use Rattle.step_rules.specs.Starts.{StartIsPinned, UntouchedAgree};
@@ -52,6 +53,13 @@ pub fn start_is_pinned()
 /// next word is `END`.
 pub fn untouched_agree()
     ensures { UntouchedAgree }
+{}
+
+/// After a step that found a cell's backup word, the seat has seen all that any seat had seen at that
+/// moment. The node found has the words of the cell's first record then, and a word that no change put
+/// there is the cell's first one.
+pub fn looks_are_recent()
+    ensures { LooksAreRecent }
 {}
 
 /// No version that a seat found is above the cell's. A change in flight is the last one of its cell while

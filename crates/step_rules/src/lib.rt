@@ -27,8 +27,9 @@ pub use bucket::bucket_index;
 pub use closed::Closed;
 pub use counts::Counts;
 pub use laws::{
-    closed_line_can_be_called, flights_agree, later_found, need_is_by_order, reads_agree,
-    records_are_in_order, records_are_one, start_is_pinned, untouched_agree, versions_agree,
+    closed_line_can_be_called, flights_agree, later_found, looks_are_recent, need_is_by_order,
+    reads_agree, records_are_in_order, records_are_one, start_is_pinned, untouched_agree,
+    versions_agree,
 };
 pub use layout::{CELL_WIDTH, CLAIMS, END, Layout, MOST_NODES, NODE_WIDTH, TooLarge};
 pub use opening::{Building, build};

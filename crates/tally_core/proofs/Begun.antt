@@ -3,7 +3,7 @@ use Rattle.std.specs.List.{AllByRecursion}
 use Rattle.std.proofs.Common.{get_or, ◌≡◌, ◌∙◌, ℕ, ◌+◌, ◌*◌, ◌<◌, ◌≤◌, Bool, true, false, cond, eqb, List, [], ◌∷◌, ◌++◌, All, length, refl, sym, ap, subst, arith}
 use Rattle.std.proofs.lemmas.List.{get_or-map, length-map}
 use Rattle.std.proofs.lemmas.List.Sums.{sum_by-cons}
-use Rattle.big_atomic.proofs.SeatNumbers.{alone, built_numbers, single}
+use Rattle.big_atomic.proofs.SeatNumbers.{alone, built_numbers, single, split_led}
 use Rattle.big_atomic.specs.Seats.{AreLed, AreSplit, IsUnused, all_numbers}
 use Rattle.call_script.proofs.Turns.{may_turn}
 use Rattle.call_script.specs.Holding.{MayTurn, calls_by, holds_from}
@@ -90,10 +90,6 @@ all_begun {shared = shared} callers for unused rooms i d l =
     (unused i d.seat (omega (arith, l, length-map callers (λ (one : Caller). one.seat)))) in
     begun for own (rooms i d l)
 
-is_led : {shared : ObjectData} {seat : SeatData} (seats : List SeatData) → AreSplit shared seat seats → 0 < length seat.view.numbers → seat.first ≡ true → AreLed seats
-is_led [] split more first = absurd (omega (arith, split.count, more))
-is_led (s ∷ later) split more first = split.first s later refl ∙ first
-
 -- the seats of a new object
 pub seated : {p : Plan} {shared : ObjectData} {seat : SeatData} {seats : List SeatData} → IsBuilt p shared seat → 0 < length seat.view.numbers → AreSplit shared seat seats
     → HasSeats p shared seats
@@ -101,7 +97,7 @@ seated {shared = shared} {seats = seats} built more split = record {
   plan_is = built.plan;
   unused = split.unused;
   numbers = alone shared seats split.unused ∙ (split.numbers ∙ built_numbers built);
-  led = is_led seats split more (ap (λ (s : SeatData). s.first) built.seat);
+  led = split_led seats split more (ap (λ (s : SeatData). s.first) built.seat);
 }
 
 -- and their callers

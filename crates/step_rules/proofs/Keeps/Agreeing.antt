@@ -1,13 +1,16 @@
 -- What the rule comes to for versions and changes in flight.
-use Rattle.std.proofs.Common.{◌≡◌, ℕ, ◌+◌, ◌<◌, ◌⊎◌, suc, zero, List, [], ◌∷◌, length, refl, drop, take, sym, ap, ◌∙◌, subst, arith, ⊎_elim, inr}
+use Rattle.std.proofs.Common.{◌≡◌, ℕ, ◌+◌, ◌/◌, ◌<◌, ◌⊎◌, suc, zero, List, [], ◌∷◌, length, refl, drop, take, sym, ap, ◌∙◌, subst, arith, ⊎_elim, inr}
 use mathlib.Core.Option.{some}
 use lib.ListN.{get_elem?}
+use Rattle.seat_history.specs.declared.entry.Entry.{Entry}
 use Rattle.atomic_table.proofs.Lists.{at_longer}
 use Rattle.step_rules.specs.Claims.{OWN}
 use Rattle.step_rules.specs.Flights.{FlightAgrees, IsLater, VersionAgrees}
 use Rattle.step_rules.specs.History.{NoneOn}
 use Rattle.step_rules.specs.Layout.{cells}
-use Rattle.step_rules.specs.Readers.{SeatReader}
+use Rattle.step_rules.specs.Readers.{IsFirst, SeatReader}
+use Rattle.step_rules.specs.Recent.{IsRecent, RecentTells}
+use Rattle.step_rules.specs.Records.{records_at}
 use Rattle.step_rules.specs.Rule.{HoldsAt, backup_word, node_words, inline_words, version_word, world_of}
 use Rattle.step_rules.specs.Untouched.{IsUntouched}
 use Rattle.step_rules.specs.Versions.{FoundVersion, IsEven, IsOdd}
@@ -17,6 +20,7 @@ use Rattle.step_rules.specs.declared.plan.Plan.{Plan}
 use Rattle.step_rules.specs.declared.view.View.{View}
 use Rattle.step_rules.proofs.Rely.Advance.{claim_found}
 use Rattle.step_rules.proofs.Rely.Flights.{flight_since, released_is}
+use Rattle.step_rules.proofs.Rely.Seeing.{node_first}
 use Rattle.step_rules.proofs.Rely.Writers.{locked_flies, released_flies, waiting_flies}
 
 either_parity : (n : ℕ) → IsEven n ⊎ IsOdd n
@@ -91,3 +95,12 @@ module _ (p : Plan) (ws : List ℕ) (vs : List View) (U : Unwritten) (h : HoldsA
 
   pub reads_agree_at : (s : ℕ) (v : View) → get_elem? vs s ≡ some v → SeatReader p (version_word p ws) (inline_words p ws) v.seen v.reader
   reads_agree_at s v at = (h.seats s v at).reader
+
+pub look_tells : (p : Plan) (k x : ℕ) (log : List Entry) (look : IsRecent p k x log) → k < cells p → RecentTells look
+look_tells p k x log look lt =
+    let W = world_of p look.words look.unwritten in record {
+      seen = λ s v at. let seen = (look.rule.seats s v at).seen in (seen.rest, sym look.whole ∙ seen.whole);
+      node = subst (λ (z : List Entry × ℕ). IsFirst (records_at p z.0 k) (node_words p look.words (z.1 / 2))) (λ i. (look.whole i, look.found i))
+          (node_first p W k (look.rule.cells.cell k lt));
+      untouched = λ none. sym look.found ∙ ((look.rule.versions k lt).untouched (subst (NoneOn p k) (sym look.whole) none)).backup_is;
+    }

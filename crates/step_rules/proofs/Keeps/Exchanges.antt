@@ -446,7 +446,7 @@ module _ (m : Moment) {k x n : ℕ} {call : Call} (may : MayExchange k x n call 
     after = refl;
     rest = o.seen.rest;
     seen = o.seen.whole;
-    recent = λ none. let u = (m.rule.versions k inside).untouched none in sym hit ∙ u.backup_is;
+    recent = record { words = m.ws; views = m.vs; unwritten = m.unwritten; rule = m.rule; whole = refl; found = hit };
     calm = λ y f. subst (λ (q : Claim). NoneOn p k (drop q.at log)) (some-injective may.back y (sym may.claimed ∙ f)) calm;
   }
 

@@ -10,12 +10,13 @@ use Rattle.seat_history.specs.declared.entry.Entry.{Entry}
 use Rattle.step_rules.specs.Cells.{IsCell, register_chain}
 use Rattle.step_rules.specs.Claims.{OWN, On, SeatClaims, Tells}
 use Rattle.step_rules.specs.History.{NoneBy, NoneOn}
-use Rattle.step_rules.specs.Kinds.Backup.{IsRecent, Looks}
+use Rattle.step_rules.specs.Kinds.Backup.{Looks}
 use Rattle.step_rules.specs.Lawful.{Lawful}
 use Rattle.step_rules.specs.Layout.{cells, nodes}
 use Rattle.step_rules.specs.Looks.{IsLook, LookHolds, SeatLook}
 use Rattle.step_rules.specs.Nodes.{IsNode}
 use Rattle.step_rules.specs.Readers.{IsFirst, SeatReader}
+use Rattle.step_rules.specs.Recent.{IsRecent}
 use Rattle.step_rules.specs.Records.{IsCounted, records_at, records_of}
 use Rattle.step_rules.specs.Rule.{backup_word}
 use Rattle.step_rules.specs.Versions.{IsEven}
@@ -88,6 +89,14 @@ register_node p W k inside cell =
       is = cell.node 0 (record { node = W.backup k / 2; words = rec ++ 0 ∷ [] }) (ap (λ l. get_elem? l 0) e);
     }
 
+-- and has the words of the cell's first record
+pub node_first : (p : Plan) (W : World) (k : ℕ) → IsCell p W k → IsFirst (records_at p W.log k) (W.node (W.backup k / 2))
+node_first p W k cell =
+    let node = cell_node p W k cell in
+    let h : Held = record { node = W.backup k / 2; words = W.node (W.backup k / 2) } in
+    subst (λ rs. IsFirst rs h.words) (ap records_of (sym node.chain) ∙ cell.records)
+    (first_of h node.rest (subst IsCounted node.chain cell.counted) (subst (λ l. Linked l 0) node.chain (chained_linked W (Live k) (W.chain k) 0 cell.chained)))
+
 -- the last look is this one
 pub look_now : (p : Plan) (backup : ℕ → ℕ) (log : List Entry) (k x : ℕ) → k < cells p → x / 2 < nodes p → backup k ≡ x → SeatLook p backup log log (Some (look_at k x (length log)))
 look_now p backup log k x inside there named = record {
@@ -133,17 +142,10 @@ module _ (m : Moment) (kind : Kind) (k : ℕ) (inside : k < cells m.view.plan) w
   words_first : (ws : List ℕ) → IsEven x → (world m).inline k ≡ ws → IsFirst (records_at p (take (length log) log) k) ws
   words_first ws unmarked is =
       let at = m.rule.versions k inside in
-      let cell = m.rule.cells.cell k inside in
-      let node = cell_node p (world m) k cell in
       let settled = at.settled unmarked in
-      let h : Held = record { node = x / 2; words = (world m).node (x / 2) } in
-      let first : IsFirst (records_of (h ∷ node.rest)) h.words = first_of h node.rest (subst IsCounted node.chain cell.counted)
-      (subst (λ l. Linked l 0) node.chain (chained_linked (world m) (Live k) ((world m).chain k) 0 cell.chained)) in
-      subst (λ (z : List (List ℕ) × List ℕ). IsFirst z.0 z.1)
-      (λ i. (
-        (ap records_of (sym node.chain) ∙ (cell.records ∙ ap (λ (l : List Entry). records_at p l k) (sym (take_all (length log) log (le_refl (length log)))))) i,
-        (sym (at.copied settled.0 settled.1) ∙ is) i,
-      )) first
+      subst (λ (z : List Entry × List ℕ). IsFirst (records_at p z.0 k) z.1)
+      (λ i. (sym (take_all (length log) log (le_refl (length log))) i, (sym (at.copied settled.0 settled.1) ∙ is) i))
+      (node_first p (world m) k (m.rule.cells.cell k inside))
 
   reader_then : SeatReader p (world m).version (world m).inline log (sees_unmarked kind k x (length log) v.reader)
   reader_then =
@@ -188,9 +190,9 @@ module _ (m : Moment) (kind : Kind) (k : ℕ) (inside : k < cells m.view.plan) w
   pub sees_falls : (l : Look) → v.look ≡ Some l → l.cell ≡ k → NoneOn p k (drop l.at log) → x ≤ l.word
   sees_falls l e on none = subst (λ j. backup_word p m.ws j ≤ l.word) on (((seat m).look.holds l e).falls (subst (λ j. NoneOn p j (drop l.at log)) (sym on) none))
 
-  -- a cell without an entry has its first word
+  -- what is seen is the whole history
   pub sees_recent : IsRecent p k x log
-  sees_recent none = let u = (m.rule.versions k inside).untouched none in u.backup_is
+  sees_recent = record { words = m.ws; views = m.vs; unwritten = m.unwritten; rule = m.rule; whole = refl; found = refl }
 
   -- an entry on the cell since a claim on another node of it stands
   sees_gone : (c n : ℕ) (y : Claim) → get_elem? v.claims c ≡ some y → Tells c → On y n → y.cell ≡ k → x / 2 ≢ n → ¬ NoneOn p k (drop y.at log)

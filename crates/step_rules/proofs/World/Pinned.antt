@@ -1,5 +1,5 @@
 -- The rule at the start, of a table whose one seat is the first, is met by the words of the start alone.
-use Rattle.std.proofs.Common.{◌≡◌, ◌∙◌, ℕ, ◌+◌, ◌*◌, ◌-◌, ◌/◌, ◌%◌, ◌<◌, ◌≤◌, suc, zero, true, List, [], ◌∷◌, ◌++◌, length, map, get_or, refl, sym, ap, subst, arith, ⊎_elim}
+use Rattle.std.proofs.Common.{◌≡◌, ◌∙◌, ℕ, ◌+◌, ◌*◌, ◌-◌, ◌/◌, ◌%◌, ◌<◌, ◌≤◌, suc, zero, true, List, [], ◌∷◌, map, get_or, refl, sym, ap, subst, arith, ⊎_elim}
 use Rattle.std.proofs.lemmas.Bool.{cases_eq, cases_lt, cond-true, lt-ltb}
 use Rattle.std.proofs.lemmas.List.{get_or_append_left}
 use mathlib.Core.Option.{some}
@@ -9,9 +9,8 @@ use Rattle.seat_history.proofs.Blank.{get_or_replicate_same}
 use Rattle.seat_history.specs.Contents.{zeros}
 use Rattle.seat_history.specs.declared.entry.Entry.{Entry}
 use Rattle.seat_history.specs.declared.words.TheConstants.{WIDTH}
-use Rattle.step_rules.specs.Claims.{SeatClaims}
 use Rattle.step_rules.specs.History.{NoneBy, NoneOn}
-use Rattle.step_rules.specs.Layout.{backup_at, cells, claim_at, inline_at, node_at, nodes, version_at}
+use Rattle.step_rules.specs.Layout.{backup_at, cells, claim_at, node_at, nodes, version_at}
 use Rattle.step_rules.specs.Rule.{Holds, HoldsAt, backup_word, claim_word, inline_words, node_words, version_word, world_of}
 use Rattle.step_rules.specs.Seats.{SeatOk}
 use Rattle.step_rules.specs.Starts.{IsStart}
@@ -20,11 +19,10 @@ use Rattle.step_rules.specs.Views.{count_up, number, silent, starting, zero_node
 use Rattle.step_rules.specs.World.{Unwritten, World, has}
 use Rattle.step_rules.specs.declared.layout.TheConstants.{CLAIMS, NODE_WIDTH}
 use Rattle.step_rules.specs.declared.plan.Plan.{Plan}
-use Rattle.step_rules.specs.declared.view.Held.{Held}
 use Rattle.step_rules.proofs.Numbers.Sets.{any_number, has_count}
 use Rattle.step_rules.proofs.Rely.Advance.{claim_found}
 use Rattle.step_rules.proofs.World.Frames.{inline_is, node_is}
-use Rattle.step_rules.proofs.World.Opens.{cell_there, plain_next}
+use Rattle.step_rules.proofs.World.Opens.{plain_next}
 
 -- the first seat has each node that is no cell's
 free_at : (m n i : ℕ) → i < n → get_elem? (map zero_node (count_up m n)) i ≡ some (zero_node (m + i))

@@ -1,25 +1,21 @@
 -- Looks at a cell's backup, and exchanges of it.
-use Rattle.std.specs.Prelude.{◌≡◌, ◌≢◌, ℕ, ◌*◌, ◌/◌, ◌<◌, ◌≤◌, true, List, ◌++◌, Some, drop}
+use Rattle.std.specs.Prelude.{◌≡◌, ◌≢◌, ℕ, ◌/◌, ◌<◌, ◌≤◌, true, List, ◌++◌, Some, drop}
 use mathlib.Core.Option.{some}
 use lib.ListN.{get_elem?}
 use Rattle.seat_history.specs.declared.call.Call.{Call}
 use Rattle.seat_history.specs.declared.entry.Entry.{Entry}
 use Rattle.step_rules.specs.Claims.{BACK, OWN, On, Tells}
 use Rattle.step_rules.specs.History.{IsThere, IsWide, NoneBy, NoneOn, cell_of}
+use Rattle.step_rules.specs.Recent.{IsRecent}
 use Rattle.step_rules.specs.Records.{fresh_records, is_change_in, records_of, removes_of}
 use Rattle.step_rules.specs.Views.{claimed_edit, claimed_records, fresh_of, kept_of, looked_view, won_view}
 use Rattle.step_rules.specs.World.{Linked, Once, has, link, nodes_of}
-use Rattle.step_rules.specs.declared.plan.Plan.{Plan}
 use Rattle.step_rules.specs.declared.view.Claim.{Claim}
 use Rattle.step_rules.specs.declared.view.Kind.{Kind}
 use Rattle.step_rules.specs.declared.view.Look.{Look}
 use Rattle.step_rules.specs.declared.view.View.{View}
 
--- the word x is the cell's first one, or the history that is seen has an entry on the cell
-abbrev pub IsRecent : Plan → ℕ → ℕ → List Entry → Type 0
-IsRecent p k x log = NoneOn p k log → x ≡ 2 * k
-
--- the word x was found in the cell k, the history being log. Where the last look at this cell found another word, there is an entry on the
+-- the word x was found in the cell k, the whole history being log. Where the last look at this cell found another word, there is an entry on the
 -- cell since; where a claim on Back or Hold of this cell stands, there is one exactly where the node found is another
 pub record Looks (kind : Kind) (k x : ℕ) (v w : View) : Type 0 where
   pub log : List Entry

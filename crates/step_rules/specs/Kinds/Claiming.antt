@@ -5,9 +5,10 @@ use lib.ListN.{get_elem?}
 use Rattle.seat_history.specs.declared.entry.Entry.{Entry}
 use Rattle.step_rules.specs.Claims.{OWN, IsClaim, On}
 use Rattle.step_rules.specs.History.{NoneOn}
-use Rattle.step_rules.specs.Kinds.Backup.{IsRecent, Looks}
+use Rattle.step_rules.specs.Kinds.Backup.{Looks}
 use Rattle.step_rules.specs.Layout.{claim_at}
 use Rattle.step_rules.specs.Nodes.{IsNode}
+use Rattle.step_rules.specs.Recent.{IsRecent}
 use Rattle.step_rules.specs.Views.{claim_of, claimed_view, freed_view, is_freed, number, scanned_view}
 use Rattle.step_rules.specs.World.{has, nodes_of}
 use Rattle.step_rules.specs.declared.layout.TheConstants.{CLAIMS}

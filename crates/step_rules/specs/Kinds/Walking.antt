@@ -5,7 +5,8 @@ use lib.ListN.{get_elem?}
 use Rattle.seat_history.specs.declared.entry.Entry.{Entry}
 use Rattle.step_rules.specs.Claims.{BACK, On, Tells, WALK}
 use Rattle.step_rules.specs.History.{NoneOn}
-use Rattle.step_rules.specs.Kinds.Backup.{IsRecent, Looks}
+use Rattle.step_rules.specs.Kinds.Backup.{Looks}
+use Rattle.step_rules.specs.Recent.{IsRecent}
 use Rattle.step_rules.specs.Views.{claim_of, claimed_pages, walked_view}
 use Rattle.step_rules.specs.World.{has, nodes_of}
 use Rattle.step_rules.specs.declared.view.Claim.{Claim}

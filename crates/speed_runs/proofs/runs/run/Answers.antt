@@ -1,6 +1,5 @@
 use Rattle.std.proofs.Common.{◌∙◌, ap}
-use Rattle.big_atomic.proofs.SeatNumbers.{split_numbers}
-use Rattle.speed_runs.proofs.Leading.{is_led}
+use Rattle.big_atomic.proofs.SeatNumbers.{split_led, split_numbers}
 use Rattle.step_rules.specs.SeatData.{SeatData}
 use Rattle.step_rules.specs.Views.{count_up}
 use Rattle.step_rules.specs.declared.plan.Plan.{Plan}
@@ -15,4 +14,4 @@ finish-requires-clause-whole g c =
 pub join-ran-requires-clause-led : goal.join-ran-requires-clause-led
 join-ran-requires-clause-led g c =
     c.in_ok-all.ensures.back.led (c.in_ok-filled.ensures.back.led
-    (is_led c.in-Ok-split_all.seats.items c.in-Ok-split_all.ensures.split c.in-Ok.ensures.law.sound.some_number (ap (λ (s : SeatData). s.first) c.in-Ok.ensures.built.1.seat)))
+    (split_led c.in-Ok-split_all.seats.items c.in-Ok-split_all.ensures.split c.in-Ok.ensures.law.sound.some_number (ap (λ (s : SeatData). s.first) c.in-Ok.ensures.built.1.seat)))
