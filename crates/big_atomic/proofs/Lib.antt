@@ -11,6 +11,7 @@ pub mod Exchanging
 pub mod Fitting
 pub mod Gathering
 pub mod Goings
+pub mod InlineReads
 pub mod Installed
 pub mod Jobs
 pub mod Lines
