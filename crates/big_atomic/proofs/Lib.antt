@@ -15,6 +15,7 @@ pub mod InlineReads
 pub mod Installed
 pub mod Jobs
 pub mod Lines
+pub mod Loaded
 pub mod Marking
 pub mod Missing
 pub mod Pacing
