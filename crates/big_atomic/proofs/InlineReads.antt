@@ -1,7 +1,6 @@
 -- Reads of a cell's inline words in a call, and the steps that follow them.
-use Rattle.std.proofs.Common.{◌≡◌, ◌≢◌, ◌∙◌, ℕ, ◌+◌, ◌<◌, ◌≤◌, suc, Bool, true, false, cond, List, [], ◌∷◌, ◌++◌, Option, Some, None, ◌⊎◌}
+use Rattle.std.proofs.Common.{◌≡◌, ◌≢◌, ◌∙◌, ℕ, ◌≤◌, suc, Bool, true, false, cond, List, [], ◌∷◌, ◌++◌, Option, Some, None, ◌⊎◌}
 use Rattle.std.proofs.Common.{length, drop, filter, append_assoc, length-append, refl, sym, ap, subst, arith, inl, inr, ⊎_elim, eq-eqb}
-use Rattle.std.proofs.lemmas.Bool.{false≢true}
 use Rattle.std.specs.Prelude.{slice_index}
 use Rattle.big_atomic.proofs.Answered.{MayEnd}
 use Rattle.big_atomic.proofs.Claimed.{looks_then, stays_then}
@@ -10,30 +9,27 @@ use Rattle.big_atomic.proofs.Marking.{among_more}
 use Rattle.big_atomic.proofs.Pacing.{paces_then}
 use Rattle.big_atomic.proofs.Paid.{AreStill, claim_stores-append, exchanges-append, last_look-append, lost-append, paid_then, rounds-append, scan_loads-append}
 use Rattle.big_atomic.proofs.Paid.{still_exchanges, still_first, still_last, still_lost, still_rounds}
-use Rattle.big_atomic.specs.Calling.{AreLooks, Goes, HasSeen, IsLooked, OnlySteps, Paces, Stays}
-use Rattle.big_atomic.specs.Marks.{Among}
+use Rattle.big_atomic.specs.Calling.{AreLooks, Goes, HasSeen, IsLooked, OnlySteps, Stays}
 use Rattle.big_atomic.specs.Reads.{ClaimsAreCaused, FoundTwoVersions, IsInlineRead, ReadFailed}
-use Rattle.big_atomic.specs.Turns.{IsPaid, TurnsArePaid, changes_on, claim_rounds, claim_stores, exchanges, is_claim_store, is_lost, last_look, lost_steps, scan_loads}
-use Rattle.cache_copy.specs.Reading.{FoundChanged, FoundMarked, FoundOdd, FoundWords, HasEnded, HasLooked, OnlyRead, ReadsInline, inline_steps, read_steps}
+use Rattle.big_atomic.specs.Turns.{TurnsArePaid, changes_on, claim_rounds, claim_stores, is_claim_store, is_lost, last_look, lost_steps, scan_loads}
+use Rattle.cache_copy.specs.Reading.{OnlyRead, ReadsInline, inline_steps, read_steps}
 use Rattle.cache_copy.specs.declared.answers.Inline.{Inline}
 use Rattle.cache_copy.specs.declared.answers.Inline.TheVariants.{Changed, Marked, Odd, Words}
 use Rattle.seat_history.specs.declared.call.Call.{Call}
 use Rattle.seat_history.specs.declared.entry.Entry.{Entry}
 use Rattle.seat_history.specs.declared.reply.Reply.{Reply}
 use Rattle.seat_history.specs.declared.reply.Reply.TheVariants.{Full}
-use Rattle.seat_history.specs.declared.words.TheConstants.{WIDTH}
 use Rattle.step_rules.proofs.Line.Trails.{longer_seen}
 use Rattle.step_rules.proofs.Rely.Advance.{goes_further}
 use Rattle.step_rules.proofs.Ties.Notes.{only_stepped}
-use Rattle.step_rules.specs.History.{GoesOn, cell_of}
+use Rattle.step_rules.specs.History.{cell_of}
 use Rattle.step_rules.specs.Kinds.Standing.{first_look, is_look}
 use Rattle.step_rules.specs.Lawful.{IsRight}
 use Rattle.step_rules.specs.SeatData.{IsOf, IsSeat, ObjectData, SeatData}
-use Rattle.step_rules.specs.Steps.{stepped}
 use Rattle.step_rules.specs.Views.{claim_of, counted, number, reading, stock}
 use Rattle.step_rules.specs.declared.plan.Plan.{Plan}
 use Rattle.step_rules.specs.declared.view.Counted.{Counted}
-use Rattle.step_rules.specs.declared.view.Kind.TheVariants.{BackupLoad, InlineLoad, VersionAgain, VersionLoad}
+use Rattle.step_rules.specs.declared.view.Kind.TheVariants.{BackupLoad, VersionAgain, VersionLoad}
 use Rattle.step_rules.specs.declared.view.View.{View}
 
 -- CLAIM STORES
@@ -128,7 +124,7 @@ first_behind k (s ∷ a) b e = go (is_look k s.kind) (first_behind k a b) e
     go true rest e = absurd cc
     go false rest e = rest e
 
--- the steps end with a look at the cell and still ones, and it saw all that is seen
+-- one of the steps looks at the cell, and it saw all that is seen now
 pub record LooksOnce (k : ℕ) (steps : List Counted) (now : SeatData) : Type 0 where
   pub first : first_look k steps ≡ Some (length now.view.seen)
   pub last : (found : Option ℕ) → last_look k found steps ≡ Some (length now.view.seen)
@@ -354,8 +350,7 @@ module _ {k : ℕ} {steps : List Counted} {before mid : SeatData} (r : ReadOnce 
   read_seen {c} {word} {claims} {now} s =
       let l = read_looked s.goes s.looked in
       let none = r.none_claimed in
-      let none_tried = r.looks.none_exchanged in
-      (
+      let none_tried = r.looks.none_exchanged in (
         record {
           steps = steps ++ s.steps;
           look = l.0;

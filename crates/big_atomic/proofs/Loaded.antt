@@ -1,9 +1,9 @@
 -- How loads come to their answers: by a read of the inline words, and by a claim where that failed.
-use Rattle.std.proofs.Common.{◌≡◌, ◌≢◌, ◌∙◌, ℕ, ◌-◌, ◌<◌, List, [], ◌∷◌, ◌++◌, None, length, take, append-nil, append_assoc, refl, sym, ap, subst, arith, ⊎_elim}
+use Rattle.std.proofs.Common.{◌≡◌, ◌≢◌, ◌∙◌, ℕ, ◌<◌, List, [], ◌∷◌, ◌++◌, length, take, append-nil, append_assoc, refl, sym, ap, subst, arith, ⊎_elim}
 use Rattle.std.proofs.lemmas.Bool.{cases_eq}
-use Rattle.big_atomic.proofs.Answered.{HasAnswered, MayEnd, answered_now, clear_step, ended_none, hold_stays, of_then, ready_after, right_at}
+use Rattle.big_atomic.proofs.Answered.{MayEnd, answered_now, clear_step, ended_none, hold_stays, of_then, ready_after, right_at}
 use Rattle.big_atomic.proofs.Balance.{nodes_stay}
-use Rattle.big_atomic.proofs.InlineReads.{HasReadOnce, LooksOnce, ReadOnce, ReadTells, caused_after, caused_none, failed_more, inline_ends, read_ours, read_seen}
+use Rattle.big_atomic.proofs.InlineReads.{HasReadOnce, ReadOnce, ReadTells, caused_after, caused_none, failed_more, inline_ends, read_ours, read_seen}
 use Rattle.big_atomic.specs.Calling.{HasClaimedRecord}
 use Rattle.big_atomic.specs.Calls.{HoldStays, IsLoaded, IsQuiet, register_at}
 use Rattle.big_atomic.specs.Reads.{ClaimsAreCaused, IsInlineRead, ReadFailed}
