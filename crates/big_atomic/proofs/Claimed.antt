@@ -9,10 +9,10 @@ use mathlib.Core.Option.{some}
 use lib.ListN.{get_elem?}
 use Rattle.big_atomic.proofs.Goings.{LooksAt, found_at_look, goes_look, goes_lost, goes_still, goes_then, looked_then, looks_at, moved_since}
 use Rattle.big_atomic.proofs.Pacing.{paces_still, paces_then}
-use Rattle.big_atomic.proofs.Paid.{AreStill, exchanges-append, scan_loads-append, still_exchanges}
+use Rattle.big_atomic.proofs.Paid.{AreStill, claim_stores-append, exchanges-append, scan_loads-append, still_exchanges}
 use Rattle.big_atomic.specs.Calling.{AreLooks, Goes, HasClaim, HasClaimed, HasClaimedRecord, HasFound, HasRead, HasSeen, HasTried, HasTurned, LookedOnce, OnlySteps, Stays, TurnedOnce, turn_steps}
 use Rattle.big_atomic.specs.Calls.{register_at}
-use Rattle.big_atomic.specs.Turns.{claim_rounds, is_claim_round, lost_steps, scan_loads}
+use Rattle.big_atomic.specs.Turns.{claim_rounds, claim_stores, is_claim_round, lost_steps, scan_loads}
 use Rattle.hazard_claims.proofs.Rechecking.{stands_told}
 use Rattle.hazard_claims.specs.Claiming.{IsAnnounced, Rechecked, claim_number}
 use Rattle.hazard_claims.specs.declared.claims.Claim.{Claim as Which}
@@ -204,6 +204,7 @@ seen_first c reg word before now f =
       };
       looks = record { none_exchanged = refl; none_scanned = refl };
       paced = record { rounds = omega arith; tries = omega arith };
+      stored = λ serves. absurd (omega arith);
       stays = f.1 c;
       found = f.2;
     }
@@ -216,6 +217,13 @@ turn_round c reg seen word before now = by (is_claim_round (Recheck c reg seen))
     by true = omega arith
     by false = omega arith
 
+-- a claim stored among some steps
+pub stored_before : (a b : List Counted) → 0 < claim_stores a → 0 < claim_stores (a ++ b)
+stored_before a b some_stored = omega (arith, claim_stores-append a b)
+
+pub stored_behind : (a b : List Counted) → 0 < claim_stores b → 0 < claim_stores (a ++ b)
+stored_behind a b some_stored = omega (arith, claim_stores-append a b)
+
 -- looks, and then one more turn, whose claim serves where no step was lost
 unfoldable pub seen_further : {c reg seen word claims : ℕ} {before mid now : SeatData} → HasSeen c reg seen 0 before mid → TurnedOnce c reg seen word mid now
     → 1 ≤ lost_steps (turn_steps c reg seen word mid now) + claims → HasSeen c reg word claims before now
@@ -226,6 +234,7 @@ seen_further {c} {reg} {seen} {word} {claims} {before} {mid} {now} s t serves = 
   looked = looked_then (s.goes None) s.looked t.goes;
   looks = looks_then s.steps (turn_steps c reg seen word mid now) s.looks (record { none_exchanged = refl; none_scanned = refl });
   paced = paces_then {mid = 0} s.paced (let one = turn_round c reg seen word mid now in record { rounds = omega arith; tries = omega arith });
+  stored = λ _. stored_behind s.steps (turn_steps c reg seen word mid now) (omega arith);
   stays = stays_then c before mid now s.stays t.stays;
   found = t.found;
 }
@@ -327,6 +336,7 @@ claimed_read {c} {reg} {word} {rec} {before} {mid} {now} tells there h r sound =
           looked = looked_then g s.looked reads;
           looks = looks_then s.steps steps s.looks (record { none_exchanged = still_exchanges steps still; none_scanned = loads_unscanned (word / 2) 0 (length mid.view.seen) r.words });
           paced = paces_then s.paced (paces_still 1 steps still);
+          stored = λ serves. stored_before s.steps steps (s.stored serves);
           stays = stays_then c before mid now s.stays (record {
             same = only_stepped mid now same;
             retired = ap (λ (z : SeatData). z.view.retired) same;

@@ -69,7 +69,7 @@ only_then u v w p q = q ∙ ap
     p
 
 -- lost steps in two stretches of the history
-few_then : (p : Plan) (k x n : ℕ) (a b : List Counted) (seen seen' : List Entry) → n ≤ length seen → GoesOn seen seen' → lost_steps a ≤ changes_on p k x (drop n seen)
+pub few_then : (p : Plan) (k x n : ℕ) (a b : List Counted) (seen seen' : List Entry) → n ≤ length seen → GoesOn seen seen' → lost_steps a ≤ changes_on p k x (drop n seen)
     → lost_steps b ≤ changes_on p k x (drop (length seen) seen')
     → lost_steps (a ++ b) ≤ changes_on p k x (drop n seen')
 few_then p k x n a b seen seen' low on first second =
@@ -77,7 +77,7 @@ few_then p k x n a b seen seen' low on first second =
     let sum = ap (changes_on p k x) (drop_parts n seen seen' low on) ∙ changes-append p k x (drop n seen) (drop (length seen) seen') in omega arith
 
 -- the lost steps of the second part, by the plan and the number of the seat at first
-few_before : {found : Option ℕ} (k : ℕ) (b : List Counted) (u v w : SeatData) → OnlySteps u.view v.view → Goes k found b v w
+pub few_before : {found : Option ℕ} (k : ℕ) (b : List Counted) (u v w : SeatData) → OnlySteps u.view v.view → Goes k found b v w
     → lost_steps b ≤ changes_on u.view.plan k (number u.view) (drop (length v.view.seen) w.view.seen)
 few_before k b u v w only q = subst (λ (z : Plan × ℕ). lost_steps b ≤ changes_on z.0 k z.1 (drop (length v.view.seen) w.view.seen)) (λ i. (ap (λ (z : View). z.plan) only i, ap number only i)) q.few
 

@@ -11,9 +11,11 @@ pub mod Exchanging
 pub mod Fitting
 pub mod Gathering
 pub mod Goings
+pub mod InlineReads
 pub mod Installed
 pub mod Jobs
 pub mod Lines
+pub mod Loaded
 pub mod Marking
 pub mod Missing
 pub mod Pacing

@@ -160,7 +160,7 @@ marks_of (LeftStale Replaced) h = marks_copied (λ steps a. inr (inr (inr (inr (
 marks_of Refreshed h = marks_copied (λ steps a. inl a) h
 
 -- further steps take no try away
-among_more : {kind : Kind} {x : ℕ} (a b : List Counted) → Among kind x a → Among kind x (a ++ b)
+pub among_more : {kind : Kind} {x : ℕ} (a b : List Counted) → Among kind x a → Among kind x (a ++ b)
 among_more {kind} {x} a b h = record {
   front = h.front;
   saw = h.saw;

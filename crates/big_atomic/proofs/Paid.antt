@@ -7,7 +7,7 @@ use Rattle.std.proofs.lemmas.List.Elements.{filter-append}
 use Rattle.std.proofs.Math.Seq.{drop-append_seam}
 use mathlib.Core.Option.{some}
 use lib.ListN.{get_elem?}
-use Rattle.big_atomic.specs.Turns.{IsPaid, TurnsArePaid, changes_on, claim_rounds, exchanges, is_claim_round, is_exchange, is_lost, is_lost_by, is_scan_load, last_look, lost_steps, scan_loads}
+use Rattle.big_atomic.specs.Turns.{IsPaid, TurnsArePaid, changes_on, claim_rounds, claim_stores, exchanges, is_claim_round, is_claim_store, is_exchange, is_lost, is_lost_by, is_scan_load, last_look, lost_steps, scan_loads}
 use Rattle.seat_history.specs.declared.entry.Entry.{Entry}
 use Rattle.step_rules.proofs.Numbers.Places.{at_behind}
 use Rattle.step_rules.proofs.Numbers.Sets.{has_first}
@@ -34,6 +34,9 @@ lost-append a b = ap length (filter-append is_lost a b) ∙ length-append _ _
 
 pub rounds-append : (a b : List Counted) → claim_rounds (a ++ b) ≡ claim_rounds a + claim_rounds b
 rounds-append a b = ap length (filter-append (λ (step : Counted). is_claim_round step.kind) a b) ∙ length-append _ _
+
+pub claim_stores-append : (a b : List Counted) → claim_stores (a ++ b) ≡ claim_stores a + claim_stores b
+claim_stores-append a b = ap length (filter-append (λ (step : Counted). is_claim_store step.kind) a b) ∙ length-append _ _
 
 pub scan_loads-append : (a b : List Counted) → scan_loads (a ++ b) ≡ scan_loads a + scan_loads b
 scan_loads-append a b = ap length (filter-append (λ (step : Counted). is_scan_load step.kind) a b) ∙ length-append _ _

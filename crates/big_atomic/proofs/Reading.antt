@@ -6,14 +6,16 @@ use Rattle.std.proofs.lemmas.List.{get_or-set_other, get_or-set_same}
 use Rattle.std.proofs.Math.Seq.{take-append_seam}
 use mathlib.Core.Option.{some}
 use lib.ListN.{get_elem?}
-use Rattle.big_atomic.proofs.Answered.{HasEnded, MayEnd, answered_now, ended_back, ended_none, goes_of, held_then, hold_stays, of_then, ready_after, ready_now, right_at}
+use Rattle.big_atomic.proofs.Answered.{HasEnded, MayEnd, answered_now, clear_step, ended_back, ended_none, goes_of, held_then, hold_stays, of_then, ready_after, ready_now, right_at}
 use Rattle.big_atomic.proofs.Balance.{nodes_stay}
 use Rattle.big_atomic.proofs.Claimed.{read_goes}
 use Rattle.big_atomic.proofs.Goings.{goes_still, held_stays}
-use Rattle.big_atomic.proofs.Paid.{exchanges-append, scan_loads-append, still_exchanges}
+use Rattle.big_atomic.proofs.Paid.{claim_stores-append, exchanges-append, scan_loads-append, still_exchanges}
 use Rattle.big_atomic.specs.Calling.{Goes, HasClaim, HasClaimedRecord, HasRead, HasSeen, OnlySteps}
 use Rattle.big_atomic.specs.Calls.{HoldStays, IsHeld, IsLoaded, IsLooked, IsQuiet, IsReleased, NodesStay, register_at}
+use Rattle.big_atomic.specs.Reads.{ClaimsAreCaused, ReadFailed}
 use Rattle.big_atomic.specs.Ready.{IsReady}
+use Rattle.big_atomic.specs.Turns.{claim_stores}
 use Rattle.node_pool.specs.Pool.{load_steps}
 use Rattle.seat_history.specs.declared.call.Call.{Call}
 use Rattle.seat_history.specs.declared.call.Call.TheVariants.{Load, Hold, Look, Release}
@@ -53,7 +55,7 @@ pub record HasReadRegister (c reg word : ℕ) (rec : List ℕ) (before now : Sea
   pub there : reg < before.view.plan.registers
   pub claimed : HasClaimedRecord c reg word rec before now
 
-pub has_read : {shared : ObjectData} {c reg word : ℕ} {rec : List ℕ} {before now : SeatData} → IsReady shared before → reg < shared.plan.registers
+abbrev pub has_read : {shared : ObjectData} {c reg word : ℕ} {rec : List ℕ} {before now : SeatData} → IsReady shared before → reg < shared.plan.registers
     → HasClaimedRecord c reg word rec before now → HasReadRegister c reg word rec before now
 has_read {reg = reg} ready there claimed = record {
   first = ready.law;
@@ -124,8 +126,9 @@ module _ {c reg word : ℕ} {rec : List ℕ} {before now : SeatData} (r : HasRea
   load_hold : c ≡ BACK → (after : SeatData) → LoadStood after → HoldStays before after
   load_hold back after is = hold_stays after load_ends (ended_back now goes.sound) is (seen.stays.others HOLD (λ e. absurd (omega arith))) (λ contents held. refl)
 
-  pub loaded : c ≡ BACK → (after : SeatData) → LoadStood after → IsSeat after → IsLoaded reg rec before after
-  loaded back after is last =
+  -- a claim was stored, and each had a cause
+  pub loaded : c ≡ BACK → ClaimsAreCaused (ReadFailed reg) (seen.steps ++ clear_step now ∷ []) → (after : SeatData) → LoadStood after → IsSeat after → IsLoaded reg rec before after
+  loaded back caused after is last =
       let e = ended_back now goes.sound in
       let a = answered_now after load_ends e is last in
       record {
@@ -134,6 +137,9 @@ module _ {c reg word : ℕ} {rec : List ℕ} {before now : SeatData} (r : HasRea
         there = ap (λ (s : Stand). register_at after.view s.place reg) a.stand_is ∙ (ap (λ (z : SeatData). register_at z.view end reg) is ∙ r.claimed.1);
         quiet = subst (λ (l : List Counted). IsQuiet l before after) (sym a.steps_are) (quiet (Load reg) (Words rec) after e is);
         hold = load_hold back after is;
+        caused = subst (ClaimsAreCaused (ReadFailed reg)) (sym a.steps_are) caused;
+        inline = λ none. absurd (let some_stored = seen.stored (omega arith) in
+            omega (arith, ap claim_stores a.steps_are, claim_stores-append seen.steps (clear_step now ∷ [])));
       }
 
   pub load_ready : c ≡ BACK → (shared : ObjectData) (after : SeatData) → IsReady shared before → LoadStood after → IsSeat after → IsReady shared after

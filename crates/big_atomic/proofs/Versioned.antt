@@ -68,6 +68,7 @@ module _ {k u : ℕ} (before mid : SeatData) (is : mid ≡ stepped (version_view
     looked = looked_begun s.looked;
     looks = record { none_exchanged = s.looks.none_exchanged; none_scanned = s.looks.none_scanned };
     paced = record { rounds = s.paced.rounds; tries = s.paced.tries };
+    stored = s.stored;
     stays = stays_then c before mid now (begin_stays c) s.stays;
     found = s.found;
   }
@@ -81,6 +82,7 @@ module _ {k u : ℕ} (before mid : SeatData) (is : mid ≡ stepped (version_view
     looked = looked_then (s.goes None) s.looked (begin_goes sound);
     looks = looks_then s.steps (load ∷ []) s.looks (record { none_exchanged = refl; none_scanned = refl });
     paced = paces_then s.paced (paces_still 0 (load ∷ []) refl);
+    stored = λ serves. absurd (omega arith);
     stays = stays_then c first before mid s.stays (begin_stays c);
     found = subst (λ (m : SeatData). HasFound k word m.view) (sym is) s.found;
   }

@@ -3,7 +3,7 @@ use Rattle.std.specs.Prelude.{◌≡◌, ◌≢◌, ℕ, ◌+◌, ◌-◌, ◌*�
 use Rattle.big_atomic.specs.Calls.{register_at}
 use Rattle.big_atomic.specs.Marks.{FoundWord, HasTurn}
 use Rattle.big_atomic.specs.Ready.{IsReady}
-use Rattle.big_atomic.specs.Turns.{TurnsArePaid, changes_on, claim_rounds, exchanges, last_look, lost_steps, scan_loads}
+use Rattle.big_atomic.specs.Turns.{TurnsArePaid, changes_on, claim_rounds, claim_stores, exchanges, last_look, lost_steps, scan_loads}
 use Rattle.hazard_claims.specs.Scanning.{IsScan}
 use Rattle.hazard_claims.specs.declared.answers.Recheck.{Recheck as Rechecked}
 use Rattle.hazard_claims.specs.declared.answers.Recheck.TheVariants.{Same, Other}
@@ -126,6 +126,7 @@ pub record HasSeen (c reg word claims : ℕ) (before now : SeatData) : Type 0 wh
   pub looked : IsLooked reg steps look before now
   pub looks : AreLooks steps
   pub paced : Paces 0 claims steps
+  pub stored : 0 < claims → 0 < claim_stores steps
   pub stays : Stays c before now
   pub found : HasFound reg word now.view
 

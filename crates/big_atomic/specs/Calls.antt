@@ -1,7 +1,8 @@
 -- What the calls on registers promise.
-use Rattle.std.specs.Prelude.{◌≡◌, ◌≢◌, ℕ, ◌+◌, ◌*◌, ◌<◌, ◌≤◌, ◌⊎◌, Bool, true, false, List, [], ◌∷◌, ◌++◌, None, length, filter, drop}
+use Rattle.std.specs.Prelude.{◌≡◌, ◌≢◌, ℕ, ◌+◌, ◌*◌, ◌<◌, ◌≤◌, ◌⊎◌, Bool, true, false, List, [], ◌∷◌, ◌++◌, None, length, filter, take, drop}
 use Rattle.big_atomic.specs.Marks.{IsRefreshed}
-use Rattle.big_atomic.specs.Turns.{TurnsArePaid, changes_on, claim_rounds, exchanges, lost_steps, scan_loads}
+use Rattle.big_atomic.specs.Reads.{ClaimsAreCaused, IsInlineRead, ReadFailed}
+use Rattle.big_atomic.specs.Turns.{TurnsArePaid, changes_on, claim_rounds, claim_stores, exchanges, lost_steps, scan_loads}
 use Rattle.big_atomic.specs.declared.answers.Stored.{Stored}
 use Rattle.big_atomic.specs.declared.answers.Stored.TheVariants.{Done as StoreDone, Full as StoreFull}
 use Rattle.big_atomic.specs.declared.answers.Swap.{Swap as Answer}
@@ -13,6 +14,7 @@ use Rattle.seat_history.specs.declared.call.Call.{Call}
 use Rattle.seat_history.specs.declared.call.Call.TheVariants.{Load, Store, Swap, Hold, Look, Release}
 use Rattle.seat_history.specs.declared.reply.Reply.{Reply}
 use Rattle.seat_history.specs.declared.reply.Reply.TheVariants.{Words, Done, Yes, No, Full}
+use Rattle.seat_history.specs.declared.words.TheConstants.{WIDTH}
 use Rattle.step_rules.specs.Claims.{HOLD}
 use Rattle.step_rules.specs.Lawful.{held_by, is_full}
 use Rattle.step_rules.specs.SeatData.{IsHolding, SeatData, holds_record}
@@ -92,6 +94,10 @@ pub record IsLoaded (reg : ℕ) (words : List ℕ) (before after : SeatData) : T
   pub there : register_at after.view answered.stand.place reg ≡ words
   pub quiet : IsQuiet answered.steps before after
   pub hold : HoldStays before after
+  -- a claim is stored only where a read of the register's inline words had failed in this call
+  pub caused : ClaimsAreCaused (ReadFailed reg) answered.steps
+  -- a load that stores none is one such read, whose record is the answer; it stands where the read found the backup unmarked
+  pub inline : claim_stores answered.steps ≡ 0 → (ws : List ℕ) × IsInlineRead reg ws answered.stand.place answered.steps × (words ≡ take WIDTH ws)
 
 -- what a store's answer says of its stand
 abbrev pub store_reply : Stored → Reply

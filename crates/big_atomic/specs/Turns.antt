@@ -7,7 +7,7 @@ use Rattle.step_rules.specs.Kinds.Standing.{is_look}
 use Rattle.step_rules.specs.declared.plan.Plan.{Plan}
 use Rattle.step_rules.specs.declared.view.Counted.{Counted}
 use Rattle.step_rules.specs.declared.view.Kind.{Kind}
-use Rattle.step_rules.specs.declared.view.Kind.TheVariants.{BackupExchange, Recheck, ScanLoad}
+use Rattle.step_rules.specs.declared.view.Kind.TheVariants.{BackupExchange, ClaimStore, Recheck, ScanLoad}
 
 -- a recheck or an exchange that found another node than that of the word which it was given
 abbrev pub is_lost_by : Kind → ℕ → Bool
@@ -29,6 +29,14 @@ is_claim_round _ = false
 -- how many of the steps are rechecks on Back or Hold: so many times a cell's node was claimed, or was to be
 abbrev pub claim_rounds : List Counted → ℕ
 claim_rounds steps = length (filter (λ (step : Counted). is_claim_round step.kind) steps)
+
+abbrev pub is_claim_store : Kind → Bool
+is_claim_store (ClaimStore claim node) = true
+is_claim_store _ = false
+
+-- how many of the steps store a claim
+abbrev pub claim_stores : List Counted → ℕ
+claim_stores steps = length (filter (λ (step : Counted). is_claim_store step.kind) steps)
 
 abbrev pub is_exchange : Kind → Bool
 is_exchange (BackupExchange cell seen node) = true

@@ -10,8 +10,8 @@ use seat_history::{Call, Reply};
 use std::marker::Brand;
 use step_rules::{Seat, Shared};
 
-/// Adds a stand at the end of what the seat has seen.
-pub(crate) fn stand_now(shared: &Shared, seat: &mut Seat, call: Call, reply: Reply)
+/// Adds a stand at the end of what the seat has seen, for a call that has no claim to end.
+pub fn stand_now(shared: &Shared, seat: &mut Seat, call: Call, reply: Reply)
     requires ours { IsOf shared.now seat.old }
     requires may { MayAnswer (length seat.old.view.seen) call reply seat.old }
     ensures seat { seat.new ≡ stepped (stood_view (length seat.old.view.seen) call reply seat.old.view) seat.old }

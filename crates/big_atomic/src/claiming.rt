@@ -111,7 +111,7 @@ pub(crate) fn read_record(shared: &Shared, seat: &mut Seat, node: u32) -> Rec
 }
 
 /// The record of a node's words.
-fn record_of(words: NodeWords) -> Rec
+pub(crate) fn record_of(words: NodeWords) -> Rec
     ensures { result ≡ take WIDTH words }
 {
     let mut rec = [0; WIDTH];

@@ -17,7 +17,7 @@ mod swaps;
 #[cfg(test)]
 mod tests;
 
-pub use answering::answer_now;
+pub use answering::{answer_now, stand_now};
 pub use answers::{Install, Stored, Swap};
 pub use claiming::claim_node;
 pub use holds::{hold, look, release_hold};

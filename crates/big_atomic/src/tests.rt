@@ -6,6 +6,7 @@ ghost use Rattle.step_rules.specs.Layout.{IsPlan};
 ghost use Rattle.step_rules.specs.SeatData.{IsOf};
 
 mod copies;
+mod readers;
 mod small_shares;
 mod threads;
 
@@ -148,8 +149,8 @@ fn join(rt: &impl Abort, shared: &Shared, first: &mut Seat, other: Seat)
     shared.join(first, other);
 }
 
-// Closes an object, whose first register has this number at the end.
-fn closes(rt: &impl Abort, shared: Shared, seat: Seat, number: u64) -> Counts
+// Closes an object, whose first register has this record at the end.
+fn closes(rt: &impl Abort, shared: Shared, seat: Seat, last: Rec) -> Counts
     requires ours { IsOf shared seat }
 {
     let plan = shared.plan();
@@ -157,7 +158,7 @@ fn closes(rt: &impl Abort, shared: Shared, seat: Seat, number: u64) -> Counts
     assert_eq!(rt; seat.numbers(), plan.seats);
     assert!(rt; seat.quiet());
     let closed = shared.close(seat);
-    assert_eq!(rt; closed.register(0), rec(number));
+    assert_eq!(rt; closed.register(0), last);
     let counts = closed.counts();
     assert_eq!(rt; counts.live, plan.registers);
     counts
@@ -167,7 +168,7 @@ fn closes(rt: &impl Abort, shared: Shared, seat: Seat, number: u64) -> Counts
 fn ends(rt: &impl Abort, shared: Shared, seat: Seat, number: u64, free: u32, retired: u32)
     requires ours { IsOf shared seat }
 {
-    let counts = closes(rt, shared, seat, number);
+    let counts = closes(rt, shared, seat, rec(number));
     assert_eq!(rt; (counts.free, counts.retired), (free, retired));
 }
 

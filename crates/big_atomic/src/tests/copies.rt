@@ -1,7 +1,7 @@
 //! The inline words that changes leave.
 ghost use Rattle.step_rules.specs.SeatData.{IsOf};
 
-use super::{opened, plan, play, set, split, swap};
+use super::{LOAD, opened, plan, play, rec, set, split, swap};
 use cache_copy::{Inline, read_inline};
 use seat_history::Reply;
 use std::process::Abort;
@@ -28,5 +28,7 @@ fn changes_that_meet_no_other_leave_good_copies(rt: HostRuntime) -> Result<(), F
     let mut words = [0; NODE_WIDTH];
     words[0] = 3;
     assert_eq!(rt; copy, Inline::Words(words));
+    // So this load makes no claim.
+    play(&rt, &shared, &mut second, &[(LOAD, Reply::Words(rec(3)))]);
     Ok(())
 }

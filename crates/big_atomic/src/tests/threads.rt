@@ -12,20 +12,20 @@ use std::process::Abort;
 use std::test::Fail;
 use std::thread::{self, Threads};
 
-const SEATS: u32 = 4;
+pub(super) const SEATS: u32 = 4;
 
 /// How often each seat tries to count the first register up.
 const TRIES: u32 = 500;
 
 /// A seat, and how often it counted.
 #[derive(Drop)]
-struct Counting {
-    seat: Seat,
-    yes: u64,
+pub(super) struct Counting {
+    pub(super) seat: Seat,
+    pub(super) yes: u64,
 }
 
 // A load.
-fn loaded(rt: &impl Abort, shared: &Shared, seat: &mut Seat, call: Call) -> Rec
+pub(super) fn loaded(rt: &impl Abort, shared: &Shared, seat: &mut Seat, call: Call) -> Rec
     requires ready { IsReady shared.now seat.old }
     ensures ready { IsReady shared.now seat.new }
 {
@@ -100,7 +100,7 @@ fn count_all<R: Threads + Abort + Sync>(
 }
 
 // Joins all seats, and adds up how often they counted.
-fn joined(
+pub(super) fn joined(
     rt: &impl Abort,
     alloc: Global,
     shared: &Shared,
@@ -135,6 +135,6 @@ fn four_threads_count_together(rt: HostRuntime) -> Result<(), Fail> {
     let Counting { seat, yes } = joined(&rt, rt.alloc(), &shared, all)?;
     // A try that fails has another thread's change in it: as many succeed as one thread makes.
     assert!(rt; yes >= u64::from(TRIES));
-    closes(&rt, shared, seat, yes);
+    closes(&rt, shared, seat, rec(yes));
     Ok(())
 }
