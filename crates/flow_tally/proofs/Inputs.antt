@@ -62,7 +62,8 @@ length-joined_more : (contents : List (List ℕ)) (bytes : List ℕ) → length 
 length-joined_more contents bytes = ap length (joined_more contents bytes) ∙ length-append (joined contents) bytes
 
 -- one file more that is good, and within the limit
-pub good_more : (contents : List (List ℕ)) (bytes : List ℕ) → AreGood contents → IsWellFormed bytes → length (joined contents) + length bytes ≤ most_bytes → AreGood (contents ++ bytes ∷ [])
+pub good_more : (contents : List (List ℕ)) (bytes : List ℕ) → AreGood contents → IsWellFormed bytes
+    → length (joined contents) + length bytes ≤ most_bytes → AreGood (contents ++ bytes ∷ [])
 good_more contents bytes good well within = record {
   each = each_more contents bytes good.each well;
   within = omega (arith, within, length-joined_more contents bytes);
@@ -120,7 +121,8 @@ at_file : (names : Option Names) (files : List (List ℕ)) (i left : ℕ) (name 
     → slice_get files i ≡ Some name → file ≡ i + 1 → ReadSoFar names files i left contents ds gathered → IsAt names files file contents name
 at_file names files i left name gathered contents ds file is number had = next_file names files contents i name file is number had.count had.told had.sum.good
 
-too_large : (names : Option Names) (contents : List (List ℕ)) (name : List ℕ) (left : ℕ) → left + length (joined contents) ≡ most_bytes → IsLongerFile left names name → IsTooLarge names contents name
+too_large : (names : Option Names) (contents : List (List ℕ)) (name : List ℕ) (left : ℕ) → left + length (joined contents) ≡ most_bytes
+    → IsLongerFile left names name → IsTooLarge names contents name
 too_large None contents name left room longer = tt
 too_large (Some names) contents name left room longer = omega arith
 
@@ -130,7 +132,8 @@ alone names name file is = record { number = is; name_there = refl; told = no_co
 
 -- a file that can't be gathered
 pub file_refused : (feed : FeedShown) (files : List (List ℕ)) (i left : ℕ) (name : List ℕ) (file : ℕ) (old new : Gathered) (status : Status)
-    → slice_get files i ≡ Some name → file ≡ i + 1 → feed.current ≡ file → SoFar feed.names files i left old → AddsFile left feed name file old new (Err status) → RefusesFiles files feed status
+    → slice_get files i ≡ Some name → file ≡ i + 1 → feed.current ≡ file → SoFar feed.names files i left old
+    → AddsFile left feed name file old new (Err status) → RefusesFiles files feed status
 file_refused feed files i left name file old new (OpenFault number) is number_is last so_far adds = (
   so_far.0,
   name,
@@ -149,7 +152,10 @@ file_refused feed files i left name file old new (ReadFault number) is number_is
 )
 file_refused feed files i left name file old new (InputTooLarge number) is number_is last so_far adds = (
   (so_far.0, name, at_file feed.names files i left name old so_far.0 so_far.1 number is (adds.0 ∙ number_is) so_far.2, too_large feed.names so_far.0 name left so_far.2.room adds.1),
-  subst (λ (n : ℕ). StopsAt n feed) (sym adds.0) adds.2,
+  record {
+    stops = subst (λ (n : ℕ). StopsAt n feed) (sym adds.0) adds.2;
+    past = (so_far.0, name, at_file feed.names files i left name old so_far.0 so_far.1 number is (adds.0 ∙ number_is) so_far.2, omega (arith, adds.3, so_far.2.room));
+  },
 )
 file_refused feed files i left name file old new (BadDatagram number offset cause) is number_is last so_far adds = (
   (
@@ -175,7 +181,10 @@ one_refused feed name (OpenFault number) last reads = ([], name, alone feed.name
 one_refused feed name (ReadFault number) last reads = ([], name, alone feed.names name number reads.0, reads.1, reads.2, last ∙ sym reads.0)
 one_refused feed name (InputTooLarge number) last reads = (
   ([], name, alone feed.names name number reads.0, too_large feed.names [] name most_bytes (omega arith) reads.1),
-  subst (λ (n : ℕ). StopsAt n feed) (sym reads.0) reads.2,
+  record {
+    stops = subst (λ (n : ℕ). StopsAt n feed) (sym reads.0) reads.2;
+    past = ([], name, alone feed.names name number reads.0, omega (arith, reads.3));
+  },
 )
 one_refused feed name NoMemory last reads = tt
 one_refused feed name Done last reads = absurd reads

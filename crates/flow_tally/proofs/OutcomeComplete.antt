@@ -6,7 +6,7 @@ use Rattle.wire_ports.specs.Ports.{Names, HasRisen}
 use Rattle.flow_tally.specs.DriveOutcome.{IsDriven, IsGoodScript}
 use Rattle.flow_tally.specs.Input.{FeedShown}
 use Rattle.flow_tally.specs.OutShown.{OutShown}
-use Rattle.flow_tally.specs.Outcome.{Says, Prints, Refuses, Determines, IsDecided, IsOutput, HasOutput, IsPrintedOf}
+use Rattle.flow_tally.specs.Outcome.{Says, Prints, Refuses, Determines, IsDecided, IsOutput, HasOutput, HasRun, IsPrintedOf}
 use Rattle.flow_tally.specs.TallyOutcome.{IsPrinted, IsPrintedOn}
 use Rattle.flow_tally.specs.Words.{Tally, Drive, Command, OfTally, OfDrive}
 use Rattle.flow_tally.specs.declared.status.Status.{Status}
@@ -87,3 +87,13 @@ reported (Some (OfDrive drive)) feed out closed names text result told says is d
 reported (Some (OfTally tally)) feed out closed names text result told says is done =
     let (wrote, (object, there, prints), took) = says_told (Some (OfTally tally)) feed out closed names Done told (subst (λ (s : Status). Says (Some (OfTally tally)) feed out closed s) done says) in
     subst (λ (z : List ℕ). Appends out.taken_before z out.taken_after) (one_report tally names wrote text (is_report tally (Some names) object prints.2) is) took.all
+
+-- all that holds of a run follows from what its status says
+pub has_run : (asked : Option Command) (feed : FeedShown) (out : OutShown) (closed : Option ClosedData) (status : Status) → Says asked feed out closed status → HasRun asked feed out closed status
+has_run asked feed out closed status says = record {
+  says = says;
+  determined = λ names told. decided asked feed out closed names status told says;
+  complete = λ names outcome told is read written. complete asked feed out closed names outcome status told says is read written;
+  output = λ names told. has_output asked feed out closed names status told says;
+  report = λ names text told is done. reported asked feed out closed names text status told says is done;
+}

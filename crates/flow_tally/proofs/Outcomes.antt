@@ -8,7 +8,6 @@ use Rattle.flow_tally.specs.Words.{Command}
 use Rattle.flow_tally.proofs.OutcomeEnds.{may_want_memory}
 use Rattle.step_rules.specs.Closing.{ClosedData}
 use Rattle.flow_tally.specs.declared.status.Status.{Status}
-use Rattle.flow_tally.specs.declared.status.Status.TheVariants.{NoMemory}
 
 -- what holds of a status holds of it as it is told, with the same object
 pub told_says : (asked : Option Command) (feed : FeedShown) (out : OutShown) (closed last : Option ClosedData) (status told : Status) → IsToldAs status told → last ≡ closed

@@ -1,5 +1,5 @@
 -- What the file of a drive determines.
-use Rattle.std.specs.Prelude.{◌≡◌, ℕ, ◌≤◌, List, [], ◌∷◌, length, Option, Some, MatchOption, Result, Ok, Err}
+use Rattle.std.specs.Prelude.{◌≡◌, ℕ, ◌≤◌, List, [], ◌∷◌, length, Option, MatchOption, Result, Ok, Err}
 use Rattle.wire_ports.specs.Ports.{Names}
 use Rattle.seat_history.specs.declared.entry.Entry.{Entry}
 use Rattle.call_script.specs.Cut.{lines_of}

@@ -36,7 +36,7 @@ pub record IsAt (names : Option Names) (files : List (List ℕ)) (file : ℕ) (b
   pub good : AreGood before
 
 -- what a feed told in a run: its files; its faults and its last failure before and after; the number of the
--- file that was started last, whether it still is, and what is left of it
+-- file that was started last, whether it still is, what is left of it, and how many of its bytes were read
 pub record FeedShown : Type 0 where
   pub names : Option Names
   pub before : ℕ
@@ -46,11 +46,12 @@ pub record FeedShown : Type 0 where
   pub current : ℕ
   pub started : Bool
   pub left : Option (List ℕ)
+  pub given : ℕ
 
 -- that, by what the feed tells of its old and new state
 abbrev pub feed_shown : {Feed : Type 0} → (Feed → Option Names) → (Feed → ℕ) → (Feed → Option (ℕ × FailedIn)) → (Feed → ℕ) → (Feed → Bool) → (Feed → Option (List ℕ))
-    → Feed → Feed → FeedShown
-feed_shown files faults failed current started left old new = record {
+    → (Feed → ℕ) → Feed → Feed → FeedShown
+feed_shown files faults failed current started left given old new = record {
   names = files old;
   before = faults old;
   after = faults new;
@@ -59,6 +60,7 @@ feed_shown files faults failed current started left old new = record {
   current = current new;
   started = started new;
   left = left new;
+  given = given new;
 }
 
 -- no call of the feed failed, and the file with this number was started last
@@ -95,13 +97,23 @@ abbrev pub IsFirstBad : Option Names → List (List ℕ) → ℕ → ℕ → Mal
 IsFirstBad names files file offset cause = (before : List (List ℕ)) × (name : List ℕ) × (bytes : List ℕ) × IsAt names files file before name
     × IsBadFile names before name bytes offset cause
 
+-- of this file and the good ones before it one byte more than the limit was read, whatever the feed tells of its files
+abbrev pub IsReadPast : List (List ℕ) → ℕ → FeedShown → Type 0
+IsReadPast files file feed = (before : List (List ℕ)) × (name : List ℕ) × IsAt feed.names files file before name
+    × (length (joined before) + feed.given ≡ most_bytes + 1)
+
+-- no call of the feed failed, and the file with this number was started last and read past the limit
+pub record StopsPast (files : List (List ℕ)) (file : ℕ) (feed : FeedShown) : Type 0 where
+  pub stops : StopsAt file feed
+  pub past : IsReadPast files file feed
+
 -- why the files can't be tallied, and that no later one was started; nothing says when memory runs out
 abbrev pub RefusesFiles : List (List ℕ) → FeedShown → Status → Type 0
 RefusesFiles files feed (OpenFault file) = (before : List (List ℕ)) × (name : List ℕ) × IsAt feed.names files file before name
     × HasRisen feed.before feed.after × IsStartFailure feed.names name file feed.failed × (feed.current ≡ file)
 RefusesFiles files feed (ReadFault file) = (before : List (List ℕ)) × (name : List ℕ) × IsAt feed.names files file before name
     × HasRisen feed.before feed.after × (feed.failed ≡ Some (file, Read)) × (feed.current ≡ file)
-RefusesFiles files feed (InputTooLarge file) = IsFirstTooLarge feed.names files file × StopsAt file feed
+RefusesFiles files feed (InputTooLarge file) = IsFirstTooLarge feed.names files file × StopsPast files file feed
 RefusesFiles files feed (BadDatagram file offset cause) = IsFirstBad feed.names files file offset cause × StopsAt file feed
 RefusesFiles files feed NoMemory = Unit {0}
 RefusesFiles files feed _ = ⊥

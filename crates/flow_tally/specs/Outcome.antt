@@ -1,8 +1,9 @@
 -- What the words and the files determine, and what each status says of a run.
-use Rattle.std.specs.Prelude.{◌≡◌, ℕ, ◌≤◌, List, [], ◌∷◌, length, Option, Some, None}
-use Rattle.wire_ports.specs.Ports.{Names}
+use Rattle.std.specs.Prelude.{◌≡◌, ◌⊎◌, ℕ, ◌≤◌, List, [], ◌∷◌, length, Option, Some, None}
+use Rattle.wire_ports.specs.Bytes.{Appends}
+use Rattle.wire_ports.specs.Ports.{Names, HasRisen}
 use Rattle.flow_tally.specs.DriveOutcome.{IsDriveOutcome, IsDriven}
-use Rattle.flow_tally.specs.Input.{FeedShown, IsReadOut, RefusesFiles, StopsAt}
+use Rattle.flow_tally.specs.Input.{FeedShown, IsReadOut, RefusesFiles, StopsAt, StopsPast}
 use Rattle.flow_tally.specs.OutShown.{OutShown, IsUntouched, TookAll, TookFront}
 use Rattle.flow_tally.specs.TallyOutcome.{IsGenerated, IsPrinted, IsPrintedOn, IsTallyOutcome, files_in, most_nodes, nodes_of}
 use Rattle.flow_tally.specs.Words.{Command, OfTally, OfDrive}
@@ -42,10 +43,10 @@ IsOutput (Some (OfDrive drive)) names closed text = IsDriven drive names closed 
 abbrev pub Prints : Option Command → FeedShown → ClosedData → List ℕ → Type 0
 Prints asked feed closed text = PlanFits asked × IsReadOut (length (files_of asked)) feed × IsOutput asked feed.names closed text
 
--- how far the files were read: up to the one that is refused, and all of them at too many flows
+-- how far the files were read: up to the one that is refused, past the limit where that is the cause, and all of them at too many flows
 abbrev pub HasStopped : Option Command → FeedShown → Status → Type 0
 HasStopped asked feed (BadDatagram file offset cause) = StopsAt file feed
-HasStopped asked feed (InputTooLarge file) = StopsAt file feed
+HasStopped asked feed (InputTooLarge file) = StopsPast (files_of asked) file feed
 HasStopped asked feed (BadScript fault) = StopsAt 1 feed
 HasStopped asked feed (TooManyFlows limit) = IsReadOut (length (files_of asked)) feed
 HasStopped asked feed _ = Unit {0}
@@ -101,3 +102,14 @@ IsDecided asked names (ReadFault file) = Unit {0}
 IsDecided asked names (WriteFault written) = Determines asked names Done
 IsDecided asked names NoMemory = Unit {0}
 IsDecided asked names status = Determines asked names status
+
+-- all that holds of a run with these words: what its status says; and where the feed tells its files, that it is decided by words and files, which status it
+-- then is where neither the feed nor the output failed, what the output took, and that this is the report
+pub record HasRun (asked : Option Command) (feed : FeedShown) (out : OutShown) (closed : Option ClosedData) (status : Status) : Type 0 where
+  pub says : Says asked feed out closed status
+  pub determined : (names : Names) → feed.names ≡ Some names → IsDecided asked names status
+  pub complete : (names : Names) (outcome : Status) → feed.names ≡ Some names → Determines asked names outcome
+      → ¬ HasRisen feed.before feed.after → ¬ HasRisen out.before out.after → (status ≡ outcome) ⊎ (status ≡ NoMemory)
+  pub output : (names : Names) → feed.names ≡ Some names → HasOutput asked names out closed status
+  pub report : (names : Names) (text : List ℕ) → feed.names ≡ Some names → IsPrintedOf asked names text → status ≡ Done
+      → Appends out.taken_before text out.taken_after

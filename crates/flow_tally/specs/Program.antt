@@ -2,7 +2,7 @@
 use Rattle.std.specs.Prelude.{◌≡◌, ℕ, List, [], drop, Option, Result, Ok, Err}
 use Rattle.flow_tally.specs.Input.{FeedShown}
 use Rattle.flow_tally.specs.OutShown.{OutShown}
-use Rattle.flow_tally.specs.Outcome.{Says}
+use Rattle.flow_tally.specs.Outcome.{HasRun}
 use Rattle.flow_tally.specs.Words.{words_asked}
 use Rattle.flow_tally.specs.declared.status.Status.{Status}
 use Rattle.flow_tally.specs.declared.status.Status.TheVariants.{NoMemory}
@@ -19,7 +19,7 @@ abbrev pub IsWanting : {Args Fault : Type 0} → (Fault → Type 0) → Result A
 IsWanting is_memory (Ok args) = ⊥
 IsWanting is_memory (Err fault) = is_memory fault
 
--- a run with these words ended so; it ended for want of memory where the arguments did
+-- a run with these words ended so; it ended for want of memory where there were no arguments for that cause
 pub record EndsAs (words : List (List ℕ)) (wanting : Type 0) (feed : FeedShown) (out : OutShown) (closed : Option ClosedData) (status : Status) : Type 0 where
-  pub says : Says (words_asked words) feed out closed status
+  pub run : HasRun (words_asked words) feed out closed status
   pub memory : wanting → status ≡ NoMemory

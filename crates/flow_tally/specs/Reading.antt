@@ -1,5 +1,5 @@
 -- What the reading of one file gives, and of all.
-use Rattle.std.specs.Prelude.{◌≡◌, ℕ, ◌<◌, ◌≤◌, List, length, Option, Some, None, Result, Ok, Err, Vec}
+use Rattle.std.specs.Prelude.{◌≡◌, ℕ, ◌+◌, ◌<◌, ◌≤◌, List, length, Option, Some, None, Result, Ok, Err, Vec}
 use Rattle.std.specs.declared.alloc.Global.{Global}
 use Rattle.wire_ports.specs.Ports.{Names, HasRisen, IsStartFailure, bytes_under}
 use Rattle.wire_ports.specs.declared.feed.FailedIn.TheVariants.{Read}
@@ -25,7 +25,7 @@ abbrev pub Reads : ℕ → FeedShown → List ℕ → ℕ → Result (Vec ℕ Gl
 Reads most feed name file (Ok bytes) = (length bytes.items ≤ most) × IsBytesOf feed.names name bytes.items × IsReadOut file feed
 Reads most feed name file (Err (OpenFault number)) = (number ≡ file) × HasRisen feed.before feed.after × IsStartFailure feed.names name number feed.failed
 Reads most feed name file (Err (ReadFault number)) = (number ≡ file) × HasRisen feed.before feed.after × (feed.failed ≡ Some (number, Read))
-Reads most feed name file (Err (InputTooLarge number)) = (number ≡ file) × IsLongerFile most feed.names name × StopsAt file feed
+Reads most feed name file (Err (InputTooLarge number)) = (number ≡ file) × IsLongerFile most feed.names name × StopsAt file feed × (feed.given ≡ most + 1)
 Reads most feed name file (Err NoMemory) = Unit {0}
 Reads most feed name file (Err _) = ⊥
 

@@ -1,4 +1,4 @@
-ghost use Rattle.std.specs.Prelude.{Some, IfErr, MatchResult};
+ghost use Rattle.std.specs.Prelude.{◌≡◌, ◌≤◌, Some, IfErr, MatchResult};
 ghost use Rattle.flow_tally.specs.DriveOutcome.{GivesScriptText};
 ghost use Rattle.flow_tally.specs.Input.{feed_shown};
 ghost use Rattle.flow_tally.specs.OutShown.{out_shown};
@@ -51,9 +51,11 @@ fn drive_file<R: Threads + Sync, F: Feed, G: Gate>(
     gate: &G,
 ) -> Result<Answer, Status>
     ensures answer { MatchResult result
-        (λ answer. Prints (Some (OfDrive (drive_in words.now))) (feed_shown F.files F.faults F.failed F.current F.started F.left feed.old feed.new) answer.closed answer.text.items)
-        (Refuses (Some (OfDrive (drive_in words.now))) (feed_shown F.files F.faults F.failed F.current F.started F.left feed.old feed.new)) }
+        (λ answer. Prints (Some (OfDrive (drive_in words.now))) (feed_shown F.files F.faults F.failed F.current F.started F.left F.given feed.old feed.new) answer.closed answer.text.items)
+        (Refuses (Some (OfDrive (drive_in words.now))) (feed_shown F.files F.faults F.failed F.current F.started F.left F.given feed.old feed.new)) }
     ensures business { IfErr result (λ status. ¬ LeavesFeed (Some (OfDrive (drive_in words.now))) status) }
+    ensures files { F.files feed.new ≡ F.files feed.old }
+    ensures later { F.faults feed.old ≤ F.faults feed.new }
 {
     match read_file(alloc, feed, 1, words.file.as_str(), MOST_BYTES) {
         Ok(bytes) => answer_of(rt, alloc, words, &bytes, gate),
@@ -71,10 +73,13 @@ pub fn drive<R: Threads + Sync, F: Feed, O: Sink, G: Gate>(
     gate: &G,
 ) -> Ended
     ensures says { Says (Some (OfDrive (drive_in words.now)))
-        (feed_shown F.files F.faults F.failed F.current F.started F.left feed.old feed.new)
-        (out_shown O.faults O.taken out.old out.new)
+        (feed_shown F.files F.faults F.failed F.current F.started F.left F.given feed.old feed.new)
+        (out_shown O.faults O.taken O.writes out.old out.new)
         result.closed result.status }
     ensures business { ¬ LeavesFeed (Some (OfDrive (drive_in words.now))) result.status }
+    ensures files { F.files feed.new ≡ F.files feed.old }
+    ensures later { F.faults feed.old ≤ F.faults feed.new }
+    ensures out_later { O.faults out.old ≤ O.faults out.new }
 {
     match drive_file(rt, alloc, words, feed, gate) {
         Ok(answer) => write_output(out, answer),

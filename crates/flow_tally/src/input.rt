@@ -21,7 +21,7 @@ pub(crate) fn read_file<F: Feed>(
     name: &str,
     most: usize,
 ) -> Result<Vec<u8>, Status>
-    ensures read { Reads most (feed_shown F.files F.faults F.failed F.current F.started F.left feed.old feed.new) name.now file result }
+    ensures read { Reads most (feed_shown F.files F.faults F.failed F.current F.started F.left F.given feed.old feed.new) name.now file result }
     ensures current { F.current feed.new ≡ file }
     ensures files { F.files feed.new ≡ F.files feed.old }
     ensures later { F.faults feed.old ≤ F.faults feed.new }
@@ -63,7 +63,7 @@ fn add_file<F: Feed>(
     most: usize,
 ) -> Result<usize, Status>
     requires datagrams { gathered.old.datagrams + most < 2 ^ 64 }
-    ensures file { AddsFile most (feed_shown F.files F.faults F.failed F.current F.started F.left feed.old feed.new) name.now file gathered.old gathered.new result }
+    ensures file { AddsFile most (feed_shown F.files F.faults F.failed F.current F.started F.left F.given feed.old feed.new) name.now file gathered.old gathered.new result }
     ensures current { F.current feed.new ≡ file }
     ensures datagrams { IfOk result (λ n. gathered.new.datagrams ≤ gathered.old.datagrams + n) }
     ensures files { F.files feed.new ≡ F.files feed.old }
@@ -84,8 +84,8 @@ pub fn read_files<F: Feed>(
     feed: &mut F,
     files: &[String],
 ) -> Result<Gathered, Status>
-    ensures read { MatchResult result (HasRead (feed_shown F.files F.faults F.failed F.current F.started F.left feed.old feed.new) (Files (map string_bytes files.now)))
-        (RefusesFiles (map string_bytes files.now) (feed_shown F.files F.faults F.failed F.current F.started F.left feed.old feed.new)) }
+    ensures read { MatchResult result (HasRead (feed_shown F.files F.faults F.failed F.current F.started F.left F.given feed.old feed.new) (Files (map string_bytes files.now)))
+        (RefusesFiles (map string_bytes files.now) (feed_shown F.files F.faults F.failed F.current F.started F.left F.given feed.old feed.new)) }
     ensures files { F.files feed.new ≡ F.files feed.old }
     ensures later { F.faults feed.old ≤ F.faults feed.new }
 {

@@ -1,4 +1,4 @@
-ghost use Rattle.std.specs.Prelude.{◌≡◌, ◌++◌, OnOk, OnErr, IfOk};
+ghost use Rattle.std.specs.Prelude.{◌≡◌, ◌≤◌, ◌++◌, OnOk, OnErr, IfOk};
 ghost use Rattle.std.specs.String.{string_bytes};
 ghost use Rattle.flow_tally.specs.Message.{message_of, cause_text, datagram_line, line_cause_text, bad_line, line_too_many, script_line};
 ghost use Rattle.flow_tally.specs.Telling.{Tells, IsToldAs, HasNumbers, line_bytes};
@@ -139,7 +139,8 @@ fn line_of(alloc: Global, status: Status) -> Result<Line, AllocError>
 
 /// Writes a line as far as the sink takes it.
 fn write_line<E: Sink>(err: &mut E, line: &str)
-    ensures { Tells line.now (E.taken err.old) (E.taken err.new) (E.faults err.old) (E.faults err.new) }
+    ensures line { Tells line.now (E.taken err.old) (E.taken err.new) (E.faults err.old) (E.faults err.new) }
+    ensures later { E.faults err.old ≤ E.faults err.new }
 {
     let _ = put_all(err, line.as_bytes());
 }
@@ -151,6 +152,7 @@ pub(crate) fn tell<E: Sink>(alloc: Global, err: &mut E, ended: Ended) -> Ended
     ensures same { IsToldAs ended.status result.status }
     ensures closed { result.closed ≡ ended.closed }
     ensures line { Tells (message_of result.status) (E.taken err.old) (E.taken err.new) (E.faults err.old) (E.faults err.new) }
+    ensures later { E.faults err.old ≤ E.faults err.new }
 {
     match line_of(alloc, ended.status) {
         Ok(line) => {

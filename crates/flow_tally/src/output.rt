@@ -1,4 +1,4 @@
-ghost use Rattle.std.specs.Prelude.{◌≡◌, Some};
+ghost use Rattle.std.specs.Prelude.{◌≡◌, ◌≤◌, Some};
 ghost use Rattle.flow_tally.specs.OutShown.{out_shown, Took};
 
 use crate::answer::{Answer, Ended};
@@ -7,7 +7,8 @@ use wire_ports::{Sink, put_all};
 
 /// Writes the whole output, and tells how that ended.
 pub(crate) fn write_output<O: Sink>(out: &mut O, answer: Answer) -> Ended
-    ensures took { Took answer.text.items (out_shown O.faults O.taken out.old out.new) result.status }
+    ensures later { O.faults out.old ≤ O.faults out.new }
+    ensures took { Took answer.text.items (out_shown O.faults O.taken O.writes out.old out.new) result.status }
     ensures closed { result.closed ≡ Some answer.closed }
 {
     let Answer { text, closed } = answer;

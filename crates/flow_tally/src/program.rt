@@ -1,11 +1,11 @@
-ghost use Rattle.std.specs.Prelude.{◌≡◌, drop, map, IfOk, IsErr, Option};
+ghost use Rattle.std.specs.Prelude.{◌≡◌, ◌≤◌, drop, map, IfOk, IsErr, Option};
 ghost use Rattle.std.specs.IoError.{error_kind};
 ghost use Rattle.std.specs.String.{string_bytes};
 ghost use Rattle.std.specs.Vec.Iter.{into_iter_items};
 ghost use Rattle.flow_tally.specs.Input.{feed_shown};
 ghost use Rattle.flow_tally.specs.Message.{message_of};
 ghost use Rattle.flow_tally.specs.OutShown.{out_shown};
-ghost use Rattle.flow_tally.specs.Outcome.{LeavesFeed};
+ghost use Rattle.flow_tally.specs.Outcome.{LeavesFeed, Says};
 ghost use Rattle.flow_tally.specs.Program.{EndsAs, IsWanting, words_given};
 ghost use Rattle.flow_tally.specs.Status.{exit_code_of};
 ghost use Rattle.flow_tally.specs.Telling.{Tells};
@@ -62,12 +62,16 @@ fn run_with<R: Threads + Sync, F: Feed, O: Sink, E: Sink, G: Gate>(
     err: &mut E,
     gate: &G,
 ) -> Ended
-    ensures ended { EndsAs (map string_bytes (words_given (λ given. into_iter_items given) args))
-        (IsWanting (λ fault. error_kind fault ≡ ErrorKind.OutOfMemory) args)
-        (feed_shown F.files F.faults F.failed F.current F.started F.left feed.old feed.new)
-        (out_shown O.faults O.taken out.old out.new)
+    ensures says { Says (words_asked (map string_bytes (words_given (λ given. into_iter_items given) args)))
+        (feed_shown F.files F.faults F.failed F.current F.started F.left F.given feed.old feed.new)
+        (out_shown O.faults O.taken O.writes out.old out.new)
         result.closed result.status }
+    ensures memory { IsWanting (λ fault. error_kind fault ≡ ErrorKind.OutOfMemory) args → result.status ≡ Status.NoMemory }
     ensures untouched { LeavesFeed (words_asked (map string_bytes (words_given (λ given. into_iter_items given) args))) result.status → feed.new ≡ feed.old }
+    ensures files { F.files feed.new ≡ F.files feed.old }
+    ensures feed_later { F.faults feed.old ≤ F.faults feed.new }
+    ensures out_later { O.faults out.old ≤ O.faults out.new }
+    ensures err_later { E.faults err.old ≤ E.faults err.new }
     ensures message { Tells (message_of result.status) (E.taken err.old) (E.taken err.new) (E.faults err.old) (E.faults err.new) }
 {
     match words_of(alloc, args) {
@@ -86,14 +90,18 @@ pub fn exit_code<R: Threads + Sync, F: Feed, O: Sink, E: Sink, G: Gate>(
     err: &mut E,
     gate: &G,
 ) -> u8
-    ensures { (status : Status) × (closed : Option ClosedData) × (result ≡ exit_code_of status)
+    ensures ended { (status : Status) × (closed : Option ClosedData) × (result ≡ exit_code_of status)
         × EndsAs (map string_bytes (words_given (λ given. into_iter_items given) args))
         (IsWanting (λ fault. error_kind fault ≡ ErrorKind.OutOfMemory) args)
-        (feed_shown F.files F.faults F.failed F.current F.started F.left feed.old feed.new)
-        (out_shown O.faults O.taken out.old out.new)
+        (feed_shown F.files F.faults F.failed F.current F.started F.left F.given feed.old feed.new)
+        (out_shown O.faults O.taken O.writes out.old out.new)
         closed status
         × (LeavesFeed (words_asked (map string_bytes (words_given (λ given. into_iter_items given) args))) status → feed.new ≡ feed.old)
         × Tells (message_of status) (E.taken err.old) (E.taken err.new) (E.faults err.old) (E.faults err.new) }
+    ensures files { F.files feed.new ≡ F.files feed.old }
+    ensures feed_later { F.faults feed.old ≤ F.faults feed.new }
+    ensures out_later { O.faults out.old ≤ O.faults out.new }
+    ensures err_later { E.faults err.old ≤ E.faults err.new }
 {
     run_with(rt, alloc, args, feed, out, err, gate)
         .status

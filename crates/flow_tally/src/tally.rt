@@ -37,9 +37,11 @@ fn nodes(words: &TallyWords) -> u64
 
 /// The pairs of the files, or of the datagrams that are generated.
 fn gather<F: Feed>(alloc: Global, feed: &mut F, source: &Source) -> Result<Gathered, Status>
-    ensures read { MatchResult result (HasRead (feed_shown F.files F.faults F.failed F.current F.started F.left feed.old feed.new) (source_in source.now))
-        (RefusesFiles (files_in (source_in source.now)) (feed_shown F.files F.faults F.failed F.current F.started F.left feed.old feed.new)) }
+    ensures read { MatchResult result (HasRead (feed_shown F.files F.faults F.failed F.current F.started F.left F.given feed.old feed.new) (source_in source.now))
+        (RefusesFiles (files_in (source_in source.now)) (feed_shown F.files F.faults F.failed F.current F.started F.left F.given feed.old feed.new)) }
     ensures untouched { IsGenerated (source_in source.now) → feed.new ≡ feed.old }
+    ensures files { F.files feed.new ≡ F.files feed.old }
+    ensures later { F.faults feed.old ≤ F.faults feed.new }
 {
     match source {
         Source::Files(names) => read_files(alloc, feed, names),
@@ -113,10 +115,12 @@ fn tally_source<R: Threads + Sync, F: Feed, G: Gate>(
     gate: &G,
 ) -> Result<Answer, Status>
     ensures answer { MatchResult result
-        (λ answer. Prints (Some (OfTally (tally_in words.now))) (feed_shown F.files F.faults F.failed F.current F.started F.left feed.old feed.new) answer.closed answer.text.items)
-        (Refuses (Some (OfTally (tally_in words.now))) (feed_shown F.files F.faults F.failed F.current F.started F.left feed.old feed.new)) }
+        (λ answer. Prints (Some (OfTally (tally_in words.now))) (feed_shown F.files F.faults F.failed F.current F.started F.left F.given feed.old feed.new) answer.closed answer.text.items)
+        (Refuses (Some (OfTally (tally_in words.now))) (feed_shown F.files F.faults F.failed F.current F.started F.left F.given feed.old feed.new)) }
     ensures untouched { MatchResult result (λ _. IsGenerated (source_in words.now.source) → feed.new ≡ feed.old)
         (λ status. LeavesFeed (Some (OfTally (tally_in words.now))) status → feed.new ≡ feed.old) }
+    ensures files { F.files feed.new ≡ F.files feed.old }
+    ensures later { F.faults feed.old ≤ F.faults feed.new }
 {
     let nodes = nodes(words);
     if nodes > MOST_NODES {
@@ -136,10 +140,13 @@ pub fn tally<R: Threads + Sync, F: Feed, O: Sink, G: Gate>(
     gate: &G,
 ) -> Ended
     ensures says { Says (Some (OfTally (tally_in words.now)))
-        (feed_shown F.files F.faults F.failed F.current F.started F.left feed.old feed.new)
-        (out_shown O.faults O.taken out.old out.new)
+        (feed_shown F.files F.faults F.failed F.current F.started F.left F.given feed.old feed.new)
+        (out_shown O.faults O.taken O.writes out.old out.new)
         result.closed result.status }
     ensures untouched { LeavesFeed (Some (OfTally (tally_in words.now))) result.status → feed.new ≡ feed.old }
+    ensures files { F.files feed.new ≡ F.files feed.old }
+    ensures later { F.faults feed.old ≤ F.faults feed.new }
+    ensures out_later { O.faults out.old ≤ O.faults out.new }
 {
     match tally_source(rt, alloc, words, feed, gate) {
         Ok(answer) => write_output(out, answer),

@@ -3,7 +3,7 @@
 use super::{Part, USAGE_LINE, done, file, row, words_of};
 use crate::status::Status;
 use crate::top::run;
-use call_script::{BadScript, LineCause};
+use call_script::{BadScript, Counts, Driven, LineCause, read_script, run_plain, write_replies};
 use std::alloc::Global;
 use std::process::Abort;
 use std::test::Fail;
@@ -65,6 +65,36 @@ fn scripts(rt: HostRuntime) -> Result<(), Fail> {
         done(&rt, words, &[Part::Text(script)], out)?;
     }
     Ok(())
+}
+
+/// A script of one caller, with each kind of call. It leaves one record, so that no node is spent.
+const ONE_CALLER: &str =
+    "callers 1\n0 store 3 7,0,1\n0 hold 3\n0 store 3 8\n0 look\n0 drop\n0 swap 3 8 9\n0 swap 3 8 9\n\
+    0 hold 3\n0 look\n0 load 4\n0 insert 9,4 1,2\n0 insert 9,4 5\n0 insert 8 6\n0 find 8\n0 replace 9,4 1,2 3\n\
+    0 replace 9,4 1,2 3\n0 remove 8\n0 remove 8\n0 replace 8 1 1\n0 drop\n0 find 9,4\n";
+
+/// What the script prints where its lines are called on the object of one thread.
+fn plain_text(alloc: Global, script: &str) -> Result<Vec<u8>, Fail> {
+    let script = read_script(alloc, script.as_bytes())?;
+    let run = run_plain(alloc, &script)?;
+    let driven = Driven {
+        replies: run.replies,
+        registers: run.registers,
+        pairs: run.pairs,
+        counts: Counts {
+            free: 4096,
+            live: 32,
+            retired: 0,
+        },
+    };
+    Ok(write_replies(alloc, &driven)?)
+}
+
+#[test]
+fn one_caller_is_answered_as_on_one_thread(rt: HostRuntime) -> Result<(), Fail> {
+    let text = plain_text(rt.alloc(), ONE_CALLER)?;
+    let out = str::from_utf8(text.as_slice()).unwrap_or("");
+    done(&rt, "drive a", &[Part::Text(ONE_CALLER)], out)
 }
 
 /// How many words of the text are this one.

@@ -21,7 +21,7 @@ pub loop-name-preserved : goal.loop-name-preserved
 loop-name-preserved g c =
     let F = g.F.Feed in
     let index = c.loop-name.name-index in
-    let shown = feed_shown F.files F.faults F.failed F.current F.started F.left c.args.feed.now c.add_file.new.feed in
+    let shown = feed_shown F.files F.faults F.failed F.current F.started F.left F.given c.args.feed.now c.add_file.new.feed in
     let there : slice_get (map string_bytes c.args.files.now) index ≡ Some (string_bytes c.name-item.result) =
     get-map string_bytes c.args.files.now index c.name-item.result c.loop-name-test.true c.name-item.is in
     let number : c.in-Some.next ≡ index + 1 = omega (arith, c.in-Some.ensures, c.loop-name.invariant.number) in
@@ -43,7 +43,7 @@ pub returns-in-Err-clause-read : goal.returns-in-Err-clause-read
 returns-in-Err-clause-read g c =
     let F = g.F.Feed in
     let index = c.loop-name.name-index in
-    let shown = feed_shown F.files F.faults F.failed F.current F.started F.left c.args.feed.now c.add_file.new.feed in
+    let shown = feed_shown F.files F.faults F.failed F.current F.started F.left F.given c.args.feed.now c.add_file.new.feed in
     let there : slice_get (map string_bytes c.args.files.now) index ≡ Some (string_bytes c.name-item.result) =
     get-map string_bytes c.args.files.now index c.name-item.result c.loop-name-test.true c.name-item.is in
     let adds : AddsFile c.loop-name.left shown (string_bytes c.name-item.result) c.in-Some.next c.loop-name.gathered c.add_file.new.gathered (Err c.in-Err.status) =

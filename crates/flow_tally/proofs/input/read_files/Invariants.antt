@@ -11,5 +11,5 @@ invariant-loop-name g l = let F = g.F.Feed in record {
   number : l.file ≡ l.name-index;
   datagrams : l.gathered.datagrams + l.left ≤ most_bytes;
   files : F.files l.feed ≡ F.files l.fn.feed;
-  out : IsReadOut l.name-index (feed_shown F.files F.faults F.failed F.current F.started F.left l.fn.feed l.feed);
+  out : IsReadOut l.name-index (feed_shown F.files F.faults F.failed F.current F.started F.left F.given l.fn.feed l.feed);
 }
