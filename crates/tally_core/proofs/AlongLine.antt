@@ -23,8 +23,9 @@ use Rattle.step_rules.specs.declared.plan.Plan.{Plan}
 use Rattle.step_rules.specs.declared.view.Stand.{Stand}
 use Rattle.tally_core.proofs.AddsFold.{adds_fold, others_still}
 use Rattle.tally_core.proofs.Folding.{flow_in}
-use Rattle.tally_core.proofs.Slices.{first_taken, joined, joined_same}
+use Rattle.tally_core.proofs.Joined.{first_taken, joined_same}
 use Rattle.tally_core.specs.Adding.{Adds, AreInRange, IsTallyCall, adding_in, is_adding, is_adding_reply, key_words, IsValueInRange}
+use Rattle.tally_core.specs.Tallying.{joined}
 
 -- of a stand that isn't Full the reply is the object's
 reply_is : (p : Plan) (stock : ℕ) (contents : Contents) (log : List Entry) (held : Option (List ℕ)) (call : Call) (reply : Reply) → IsReply p stock contents log held call reply
@@ -110,10 +111,13 @@ some_pair : (pairs : Flows) (s : Stand) (stands : List Stand) → AllZip Adds pa
 some_pair [] s stands zip = absurd zip
 some_pair (pair ∷ rest) s stands zip = (pair, rest, refl)
 
+abbrev no_lists : ℕ → Flows
+no_lists w = []
+
 none_left : (n : ℕ) (lists : ℕ → Flows) → ((w : ℕ) → w < n → lists w ≡ []) → joined n lists ≡ []
-none_left n lists none = joined_same n lists (λ _. []) none ∙ empty n
+none_left n lists none = joined_same n lists no_lists none ∙ empty n
   where
-    empty : (m : ℕ) → joined m (λ _. []) ≡ []
+    empty : (m : ℕ) → joined m no_lists ≡ []
     empty zero = refl
     empty (suc m) = ap (λ (l : Flows). l ++ []) (empty m)
 

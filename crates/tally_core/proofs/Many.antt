@@ -1,10 +1,10 @@
 -- A worker that was answered Full has met more keys than the plan is made for.
-use Rattle.std.proofs.Common.{◌≡◌, ◌∙◌, ℕ, ◌+◌, ◌*◌, ◌<◌, ◌≤◌, ◌⊎◌, inl, inr, suc, zero, Bool, true, false, cond, eqb, List, [], ◌∷◌, ◌++◌, Option}
+use Rattle.std.proofs.Common.{◌≡◌, ◌∙◌, ℕ, ◌+◌, ◌-◌, ◌*◌, ◌<◌, ◌≤◌, ◌⊎◌, inl, inr, suc, zero, Bool, true, false, cond, eqb, List, [], ◌∷◌, ◌++◌, Option}
 use Rattle.std.proofs.Common.{Some, None, IsSome, length, take, drop, is_some, refl, sym, ap, subst, arith}
 use Rattle.std.specs.BTreeMap.{is_at}
 use Rattle.std.specs.Cmp.{eq_by_cmp_equiv}
 use Rattle.std.specs.List.{AllByRecursion, IsDistinct}
-use Rattle.std.specs.Prelude.{MatchOption, filter, nat_lt}
+use Rattle.std.specs.Prelude.{MatchOption, filter, min, nat_lt}
 use Rattle.std.proofs.Math.Seq.{get_or-append_seam, take-append_seam}
 use Rattle.std.proofs.lemmas.Bool.{cases_lt, cond-false, false_from_ne_true, false≢true, ltb-true}
 use Rattle.std.proofs.lemmas.List.Sums.{sum_by-append, sum_by-take-le}
@@ -41,9 +41,10 @@ use Rattle.tally_core.proofs.Folding.{flow_in}
 use Rattle.tally_core.proofs.Inserts.{AreOfTally, inserts, is_insert, need_most, records_length}
 use Rattle.tally_core.proofs.Keys.{HasKeys, keys_grow}
 use Rattle.tally_core.proofs.LineCosts.{CostsLine, all_calls, line_costs}
-use Rattle.tally_core.proofs.Slices.{joined, slices_join}
 use Rattle.tally_core.proofs.Summed.{line, line_told, part, parts, parts_added, parts_fold}
-use Rattle.tally_core.specs.Adding.{HasMoreKeys, HasTallied, HasValues, IsTallyCall, plan_of_tally, slice_of}
+use Rattle.tally_core.specs.Adding.{EndsFull, HasMoreKeys, HasTallied, HasValues, IsTallyCall, plan_of_tally}
+use Rattle.tally_core.specs.Draws.{batch_of, drawn_pairs}
+use Rattle.tally_core.specs.Tallying.{joined}
 
 -- pairs without a key have parts without it
 none_in_front : (key : Key) (front back : Flows) → values_at key (front ++ back) ≡ [] → values_at key front ≡ []
@@ -62,23 +63,31 @@ no_values : (key : Key) → values_at key [] ≡ []
 unfolding values_at
 no_values key = refl
 
-module _ (workers : ℕ) (pairs : Flows) (full : ℕ → Bool) (closed : ClosedData) (tallied : HasTallied workers pairs full closed) (key : Key) where
-  part_none : (w : ℕ) (d : (w < workers) ⊎ (workers ≤ w)) → values_at key (slice_of workers w pairs) ≡ [] → values_at key (part workers pairs full closed tallied w d) ≡ []
-  part_none w (inl below) none = let count = (tallied.added w below).count in
-      none_in_front key (take count (slice_of workers w pairs)) (drop count (slice_of workers w pairs))
-      (ap (values_at key) (take-append-drop count (slice_of workers w pairs)) ∙ none)
-  part_none w (inr beyond) none = no_values key
+-- so a batch of them has none
+batch_none : (key : Key) (pairs : Flows) (i : ℕ) → values_at key pairs ≡ [] → values_at key (batch_of pairs i) ≡ []
+batch_none key pairs i none =
+    let from = 256 * i in
+    let long = min (from + 256) (length pairs) - from in
+    let back : values_at key (drop from pairs) ≡ [] = none_behind key (take from pairs) (drop from pairs) (ap (values_at key) (take-append-drop from pairs) ∙ none) in
+    none_in_front key (take long (drop from pairs)) (drop long (drop from pairs)) (ap (values_at key) (take-append-drop long (drop from pairs)) ∙ back)
 
-  parts_none : (n : ℕ) → values_at key (joined n (λ w. slice_of workers w pairs)) ≡ [] → values_at key (joined n (parts workers pairs full closed tallied)) ≡ []
-  parts_none zero none = none
-  parts_none (suc n) none =
-      let front = parts_none n (none_in_front key (joined n (λ w. slice_of workers w pairs)) (slice_of workers n pairs) none) in
-      let last = part_none n (cases_lt n workers) (none_behind key (joined n (λ w. slice_of workers w pairs)) (slice_of workers n pairs) none) in
-      values_at-append key (joined n (parts workers pairs full closed tallied)) (parts workers pairs full closed tallied n) ∙ (λ i. front i ++ last i)
+drawn_none : (key : Key) (pairs : Flows) (batches : List ℕ) → values_at key pairs ≡ [] → values_at key (drawn_pairs pairs batches) ≡ []
+drawn_none key pairs [] none = no_values key
+drawn_none key pairs (i ∷ batches) none = values_at-append key (batch_of pairs i) (drawn_pairs pairs batches) ∙ (λ j. batch_none key pairs i none j ++ drawn_none key pairs batches none j)
+
+module _ (workers : ℕ) (pairs : Flows) (drawn : ℕ → List ℕ) (full : ℕ → Bool) (closed : ClosedData) (tallied : HasTallied workers pairs drawn full closed) (key : Key)
+    (none : values_at key pairs ≡ []) where
+  part_none : (w : ℕ) (d : (w < workers) ⊎ (workers ≤ w)) → values_at key (part workers pairs drawn full closed tallied w d) ≡ []
+  part_none w (inl below) = let count = (tallied.added w below).count in
+      none_in_front key (take count (drawn_pairs pairs (drawn w))) (drop count (drawn_pairs pairs (drawn w)))
+      (ap (values_at key) (take-append-drop count (drawn_pairs pairs (drawn w))) ∙ drawn_none key pairs (drawn w) none)
+  part_none w (inr beyond) = no_values key
 
   -- what was added has no key that the pairs haven't
-  pub none_added : 0 < workers → values_at key pairs ≡ [] → values_at key (joined workers (parts workers pairs full closed tallied)) ≡ []
-  none_added positive none = parts_none workers (ap (values_at key) (slices_join workers pairs positive) ∙ none)
+  none_added : (n : ℕ) → values_at key (joined n (parts workers pairs drawn full closed tallied)) ≡ []
+  none_added zero = no_values key
+  none_added (suc n) = values_at-append key (joined n (parts workers pairs drawn full closed tallied)) (parts workers pairs drawn full closed tallied n)
+      ∙ (λ i. none_added n i ++ part_none n (cases_lt n workers) i)
 
 -- a key with a value among the pairs that were added has one in the fold of all pairs
 value_there : (some_value whole : Option Value) (added all : List Value) → is_some some_value ≡ true → MatchOption some_value (added ≡ []) (IsTotal added)
@@ -129,7 +138,7 @@ nothing_once : IsDistinct (λ (a b : Key). is_at (key_cmp a) b) []
 unfolding IsDistinct
 nothing_once = tt
 
-module _ (workers : ℕ) (pairs : Flows) (full : ℕ → Bool) (closed : ClosedData) (tallied : HasTallied workers pairs full closed) (positive : 0 < workers) where
+module _ (workers : ℕ) (pairs : Flows) (drawn : ℕ → List ℕ) (full : ℕ → Bool) (closed : ClosedData) (tallied : HasTallied workers pairs drawn full closed) where
   abbrev values : ℕ → Option (List ℕ)
   values = (state_at closed.history (length closed.history)).values
 
@@ -141,9 +150,9 @@ module _ (workers : ℕ) (pairs : Flows) (full : ℕ → Bool) (closed : ClosedD
       let start : HasKeys blank.values 0 = record { keys = []; are = record { once = nothing_once; there = λ key any. absurd (false≢true any) }; long = refl } in
       let grown = keys_grow closed.plan blank closed.history 0 is.whole.each calls start in
       let many = length-le_from_keys (eq_by_cmp_equiv key_cmp_total) grown.keys flows grown.are.once (λ key any.
-      value_there (flow_in values key) (value_in flows key) (values_at key (joined workers (parts workers pairs full closed tallied))) (values_at key pairs)
+      value_there (flow_in values key) (value_in flows key) (values_at key (joined workers (parts workers pairs drawn full closed tallied))) (values_at key pairs)
       (ap (λ (c : Contents). is_some (flow_in c.values key)) whole ∙ grown.are.there key any)
-      (parts_fold workers pairs full closed tallied key) (fold key) (none_added workers pairs full closed tallied key positive)) in
+      (parts_fold workers pairs drawn full closed tallied key) (fold key) (λ none. none_added workers pairs drawn full closed tallied key none workers)) in
       omega (arith, many, grown.long)
 
 -- without registers no cell has a record at the start
@@ -164,7 +173,7 @@ last_call : (before : List Stand) (s : Stand) → AllByRecursion IsTallyCall (be
 last_call [] s all = all.0
 last_call (first ∷ before) s all = last_call before s all.1
 
-module _ (pairs : Flows) (workers flows : ℕ) (full : ℕ → Bool) (closed : ClosedData) (tallied : HasTallied workers pairs full closed) (w : ℕ) (below : w < workers) where
+module _ (pairs : Flows) (workers flows : ℕ) (drawn : ℕ → List ℕ) (full : ℕ → Bool) (closed : ClosedData) (tallied : HasTallied workers pairs drawn full closed) (w : ℕ) (below : w < workers) where
   within : w < closed.plan.seats
   within = subst (λ n. w < n) (sym tallied.workers_are) below
 
@@ -172,9 +181,9 @@ module _ (pairs : Flows) (workers flows : ℕ) (full : ℕ → Bool) (closed : C
   spent : CostsLine closed.plan closed.history [] (stands_by w closed.stands)
   spent =
       let is = tallied.closed_is.1 in
-      let told = line_told workers pairs full closed tallied in
-      let all = all_calls closed.plan closed.history blank_object [] (line workers pairs full closed tallied) told (λ x l. (parts_added workers pairs full closed tallied x l).2) in
-      subst (CostsLine closed.plan closed.history []) (is.line.order w within) (line_costs closed.plan closed.history w blank_object [] (line workers pairs full closed tallied) told all tt)
+      let told = line_told workers pairs drawn full closed tallied in
+      let all = all_calls closed.plan closed.history blank_object [] (line workers pairs drawn full closed tallied) told (λ x l. (parts_added workers pairs drawn full closed tallied x l).2) in
+      subst (CostsLine closed.plan closed.history []) (is.line.order w within) (line_costs closed.plan closed.history w blank_object [] (line workers pairs drawn full closed tallied) told all tt)
 
   -- a Full stand at the end of them
   module _ (s : Stand) (before : List Stand) (own : stands_by w closed.stands ≡ before ++ s ∷ []) (is_full_reply : is_full s.reply ≡ true) where
@@ -208,12 +217,12 @@ module _ (pairs : Flows) (workers flows : ℕ) (full : ℕ → Bool) (closed : C
         omega (arith, share, seats, cost, gain, need, short.short, stock_left, spent.cost, spent.gain)
 
 -- where a worker was answered Full, the pairs have more keys than the plan is made for
-pub many : (pairs : Flows) (workers flows buckets : ℕ) (full : ℕ → Bool) (closed : ClosedData) (w : ℕ) → closed.plan ≡ plan_of_tally pairs workers flows buckets
-    → HasTallied workers pairs full closed → w < workers → full w ≡ true → HasMoreKeys flows pairs
-many pairs workers flows buckets full closed w plan tallied below stopped =
-    let last = (tallied.added w below).last stopped in
+pub many : (pairs : Flows) (workers flows buckets : ℕ) (drawn : ℕ → List ℕ) (full : ℕ → Bool) (closed : ClosedData) (w : ℕ) → closed.plan ≡ plan_of_tally pairs workers flows buckets
+    → HasTallied workers pairs drawn full closed → w < workers → full w ≡ true → HasMoreKeys flows pairs
+many pairs workers flows buckets drawn full closed w plan tallied below stopped =
+    let last = subst (λ b. EndsFull b (stands_by w closed.stands)) stopped (tallied.added w below).ends in
     let fold = some_fold pairs in
-    let more = many_inserts pairs workers flows full closed tallied w below last.0 last.1 last.2 last.3 buckets plan in
-    let calls = (spent pairs workers flows full closed tallied w below).calls in
-    let among = inserted_among workers pairs full closed tallied (omega arith) fold.0 fold.2 calls in
+    let more = many_inserts pairs workers flows drawn full closed tallied w below last.0 last.1 last.2 last.3 buckets plan in
+    let calls = (spent pairs workers flows drawn full closed tallied w below).calls in
+    let among = inserted_among workers pairs drawn full closed tallied fold.0 fold.2 calls in
     (fold.0, fold.1, fold.2, omega arith)

@@ -1,6 +1,6 @@
 -- The closed object has just the callers' lines.
 use Rattle.std.proofs.Common.{◌≡◌, ◌∙◌, ℕ, ◌<◌, ◌≤◌, ⊎_elim, [], ◌∷◌, ◌++◌}
-use Rattle.std.proofs.Common.{Bool, true, false, cond, List, append-nil, get_or, length, map, take, refl, sym, ap, subst, arith}
+use Rattle.std.proofs.Common.{All, Bool, true, false, cond, List, append-nil, get_or, length, map, take, refl, sym, ap, subst, arith}
 use Rattle.std.proofs.Math.Seq.{take-append_seam}
 use Rattle.std.proofs.Math.ListN.{get_or-eq_default}
 use Rattle.std.proofs.lemmas.Bool.{cases_lt}
@@ -137,7 +137,8 @@ module _ {shared : ObjectData} {lines : List Entry} (callers : List Caller) {rep
       let found = closed_run seat closed (leaves lines) own_stands lines driven closes.closed_is.1 called here ends closes.none_retired in
       record {
         plan_is = plan;
-        closed_is = closes.closed_is;
+        closed_is = (seat, closes.closed_is.1, closes.closed_is.2 ∙ (whole ∙ ap (λ (p : Plan). count_up 0 p.seats) (sym plan)));
+        callers = subst (λ (p : Plan). All (λ (s : Stand). s.by < p.seats) closed.stands) plan closes.callers;
         called = λ x l. let c = caller_of x (omega (arith, l, ap (λ (p : Plan). p.seats) plan)) in
             ap (map made_of) c.parts ∙ (map-append made_of c.own c.last
             ∙ (λ i. (c.made ∙ ap (λ rs. own_lines x (made_lines lines rs)) (sym told)) i ++ c.ending i));

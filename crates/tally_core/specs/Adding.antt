@@ -1,6 +1,8 @@
 -- Pairs added up by workers on one shared object.
-use Rattle.std.specs.Prelude.{◌≡◌, ⊤, ℕ, ◌+◌, ◌*◌, ◌/◌, ◌^◌, ◌<◌, ◌≤◌, zero, suc, Bool, true, false, List, [], ◌∷◌, ◌++◌, count_by, length, filter, take}
-use Rattle.std.specs.List.{AllByRecursion, AllZip, between}
+use Rattle.std.specs.Prelude.{◌≡◌, ⊤, ℕ, ◌+◌, ◌*◌, ◌^◌, ◌<◌, ◌≤◌, zero, suc, All, Bool, true, false, List, [], ◌∷◌, ◌++◌, count_by, length, filter, map, take}
+use Rattle.std.specs.List.Sorted.{IsPermutation}
+use Rattle.std.specs.List.{AllByRecursion, AllZip, range_with_len}
+use Rattle.call_script.specs.Run.{items_at}
 use Rattle.flow_fold.specs.Flows.{Flows, HasRisingKeys, value_in}
 use Rattle.flow_fold.specs.Fold.{IsFold}
 use Rattle.flow_fold.specs.Merge.{merge_of}
@@ -12,14 +14,19 @@ use Rattle.seat_history.specs.declared.call.Call.TheVariants.{Find, Insert, Repl
 use Rattle.seat_history.specs.declared.key.KeyWords.{KeyWords}
 use Rattle.seat_history.specs.declared.reply.Reply.{Reply}
 use Rattle.seat_history.specs.declared.reply.Reply.TheVariants.{Done, Yes}
+use Rattle.seat_history.specs.History.{state_at}
+use Rattle.seat_history.specs.Pairs.{ArePairsOf, IsPairInRange, Pairs}
 use Rattle.step_rules.specs.Closing.{ClosedData, IsClosed}
 use Rattle.step_rules.specs.History.{IsKey}
 use Rattle.step_rules.specs.Lawful.{is_full}
 use Rattle.step_rules.specs.Line.{stands_by}
 use Rattle.step_rules.specs.SeatData.{SeatData}
 use Rattle.step_rules.specs.Stock.{AreOfOne}
+use Rattle.step_rules.specs.Views.{count_up}
 use Rattle.step_rules.specs.declared.plan.Plan.{Plan}
 use Rattle.step_rules.specs.declared.view.Stand.{Stand}
+use Rattle.tally_core.specs.Draws.{AreDraws, batches_in, batches_of, draws_by, drawn_pairs, drawn_places}
+use Rattle.tally_core.specs.declared.draws.Draw.{Draw}
 
 -- a key as the table has it
 abbrev pub key_words : Key → KeyWords
@@ -93,10 +100,6 @@ pub record IsTallyCall (s : Stand) : Type 0 where
   pub values : HasValues s.call
   pub adds : is_adding s ≡ true → (pair : Key × Value) × Adds pair s
 
--- the pairs of the worker w, of so many
-abbrev pub slice_of : ℕ → ℕ → Flows → Flows
-slice_of workers w pairs = between (w * length pairs / workers) ((w + 1) * length pairs / workers) pairs
-
 -- the plan of an object for pairs: a seat a worker, each with nodes for so many flows, which may change the object for each pair
 abbrev pub plan_of_tally : Flows → ℕ → ℕ → ℕ → Plan
 plan_of_tally pairs workers flows buckets = record {
@@ -108,6 +111,15 @@ plan_of_tally pairs workers flows buckets = record {
   removes = 0;
 }
 
+-- the stand isn't Full
+abbrev pub IsAnswered : Stand → Type 0
+IsAnswered s = is_full s.reply ≡ false
+
+-- none of the stands is Full, or the last one alone is
+abbrev pub EndsFull : Bool → List Stand → Type 0
+EndsFull false stands = AllByRecursion IsAnswered stands
+EndsFull true stands = (s : Stand) × (before : List Stand) × (stands ≡ before ++ s ∷ []) × (is_full s.reply ≡ true) × AllByRecursion IsAnswered before
+
 -- the stands add the first of these pairs, in order: all of them, or fewer where the last stand is Full
 pub record HasAdded (pairs : Flows) (full : Bool) (stands : List Stand) : Type 0 where
   pub count : ℕ
@@ -116,25 +128,45 @@ pub record HasAdded (pairs : Flows) (full : Bool) (stands : List Stand) : Type 0
   pub in_range : AreInRange (take count pairs)
   pub calls : AllByRecursion IsTallyCall stands
   pub all : full ≡ false → count ≡ length pairs
-  pub last : full ≡ true → (s : Stand) × (before : List Stand) × (stands ≡ before ++ s ∷ []) × (is_full s.reply ≡ true)
+  pub ends : EndsFull full stands
 
--- on the closed object each worker added first pairs of its slice, in order, all of them unless it was answered Full, by the stands of
--- its number, which are of a seat of no other
-pub record HasTallied (workers : ℕ) (pairs : Flows) (full : ℕ → Bool) (closed : ClosedData) : Type 0 where
-  pub closed_is : (seat : SeatData) × IsClosed seat closed
+-- the object was closed with a seat that holds just the numbers of its plan
+abbrev pub IsClosedWhole : ClosedData → Type 0
+IsClosedWhole closed = (seat : SeatData) × IsClosed seat closed × (seat.view.numbers ≡ count_up 0 closed.plan.seats)
+
+-- on the closed object each worker added first pairs of the batches that it drew, in order, all of them unless it was answered Full, by the
+-- stands of its number, which are of a seat of no other
+pub record HasTallied (workers : ℕ) (pairs : Flows) (drawn : ℕ → List ℕ) (full : ℕ → Bool) (closed : ClosedData) : Type 0 where
+  pub closed_is : IsClosedWhole closed
   pub workers_are : closed.plan.seats ≡ workers
-  pub added : (w : ℕ) → w < workers → HasAdded (slice_of workers w pairs) (full w) (stands_by w closed.stands)
+  pub added : (w : ℕ) → w < workers → HasAdded (drawn_pairs pairs (drawn w)) (full w) (stands_by w closed.stands)
   pub alone : (w : ℕ) → w < workers → AreOfOne w (stands_by w closed.stands)
 
--- the pairs were added up to these flows, by rising key, on the closed object of this plan: each worker's stands add the pairs of its slice, each once
--- and in order, and so the stands that add something, by rising number, add all pairs, and there are just as many
-pub record IsTallied (p : Plan) (pairs flows : Flows) (closed : ClosedData) : Type 0 where
+-- the flows are the closed object's pairs
+pub record HasFlows (closed : ClosedData) (flows : Flows) : Type 0 where
+  pub pairs : Pairs
+  pub are : ArePairsOf (state_at closed.history (length closed.history)).values pairs
+  pub in_range : All IsPairInRange pairs
+  pub flows_are : flows ≡ map flow_of pairs
+
+-- the pairs were added up to these flows, by rising key, on the closed object of this plan, by workers that drew these batches
+pub record IsTallied (p : Plan) (pairs flows : Flows) (closed : ClosedData) (draws : List Draw) : Type 0 where
   pub plan_is : closed.plan ≡ p
-  pub closed_is : (seat : SeatData) × IsClosed seat closed
+  pub closed_is : IsClosedWhole closed
+  -- each stand is of a caller of the plan, and none is Full
+  pub callers : All (λ (s : Stand). s.by < p.seats) closed.stands
+  pub none_full : All IsAnswered closed.stands
+  -- the flows are the closed object's pairs by key, and the fold of all pairs
+  pub closed_pairs : HasFlows closed flows
   pub rising : HasRisingKeys flows
   pub fold : IsFold pairs (value_in flows)
-  pub stands : (w : ℕ) → w < p.seats → AllZip Adds (slice_of p.seats w pairs) (adding_in (stands_by w closed.stands))
-  pub in_order : AllZip Adds pairs (adding_by p.seats closed.stands)
+  pub draws_are : AreDraws p.seats (batches_of (length pairs)) draws
+  -- a worker's stands add the pairs of the batches that it drew, in order
+  pub stands : (w : ℕ) → w < p.seats → AllZip Adds (drawn_pairs pairs (batches_in (draws_by w draws))) (adding_in (stands_by w closed.stands))
+  -- and so the stands that add something, by rising number, add the pairs at the places of all batches drawn; these are each place once, and no
+  -- other stand adds something
+  pub in_order : AllZip Adds (items_at pairs (drawn_places (length pairs) (batches_in draws))) (adding_by p.seats closed.stands)
+  pub each_place : IsPermutation (range_with_len 0 (length pairs)) (drawn_places (length pairs) (batches_in draws))
   pub counted : count_by is_adding closed.stands ≡ length pairs
 
 -- the pairs have more keys than so many

@@ -1,17 +1,14 @@
-//! What a worker of a tally does, in its own thread.
-ghost use Rattle.std.specs.Prelude.{◌≡◌, ◌+◌, ◌*◌, ◌/◌, ◌<◌, ◌≤◌, ◌^◌, None, Some, [], length, not};
-ghost use Rattle.big_atomic.specs.Seats.{IsUnused, Stays};
+//! Pairs, which a worker of a tally adds one after the other.
+ghost use Rattle.std.specs.Prelude.{◌≡◌, ◌+◌, ◌<◌, ◌≤◌, None, Some, false, length, not};
+ghost use Rattle.big_atomic.specs.Seats.{Stays};
 ghost use Rattle.flow_fold.specs.Flows.{Flows};
-ghost use Rattle.step_rules.specs.Views.{number};
-ghost use Rattle.tally_core.specs.Adding.{AreOfValue, Merges, key_words, slice_of};
-ghost use Rattle.tally_core.specs.Attempts.{HasAddedOne, HasTried, HasWorked, IsAdding, IsTrying};
+ghost use Rattle.tally_core.specs.Adding.{AreOfValue, Merges, key_words};
+ghost use Rattle.tally_core.specs.Attempts.{HasAddedFirst, HasAddedOne, HasTried, IsAdding, IsTrying};
 
-use crate::worker::Adder;
 use big_atomic::{Seat, Shared};
 use cache_hash::{Insert, Replace, find, insert, replace};
 use flow_fold::{Key, Value, merge};
 use seat_history::{KeyWords, ValWords};
-use worker_gate::Gate;
 
 /// What comes of one call for a pair.
 #[derive(Drop)]
@@ -24,46 +21,11 @@ pub(crate) enum Try {
     Full,
 }
 
-/// Passes the gate, and adds the pairs of the worker's slice in order, until a call is answered Full. No
-/// memory is taken.
-pub(crate) fn add_slice<G: Gate>(
-    shared: &Shared,
-    seat: Seat,
-    pairs: &[(Key, Value)],
-    workers: u32,
-    gate: &G,
-) -> Adder
-    requires unused { IsUnused shared.now seat }
-    requires some { 0 < shared.now.plan.buckets }
-    requires number { number seat.view < workers }
-    requires few { length pairs.now ≤ 2 ^ 23 }
-    requires changes { length pairs.now ≤ shared.now.plan.changes }
-    ensures worked { HasWorked shared.now (slice_of workers (number result.seat.view) pairs.now) result.told result.seat }
-    ensures stays { Stays seat result.seat }
-{
-    let mut seat = seat;
-    let number = seat.number();
-    gate.pass(number, 0);
-    let added = add_pairs(shared, &mut seat, slice(pairs, workers, number));
-    Adder { seat, told: !added }
-}
-
-// The pairs of the worker with this number.
-fn slice(pairs: &[(Key, Value)], workers: u32, number: u32) -> &[(Key, Value)]
-    requires number { number < workers }
-    requires few { length pairs.now ≤ 2 ^ 23 }
-    ensures { result.now ≡ slice_of workers number pairs.now }
-{
-    let from = number as usize * pairs.len() / workers as usize;
-    let to = (number as usize + 1) * pairs.len() / workers as usize;
-    &pairs[from..to]
-}
-
-// Adds the pairs in order, and answers whether all are added.
-fn add_pairs(shared: &Shared, seat: &mut Seat, pairs: &[(Key, Value)]) -> bool
-    requires adding { IsAdding shared.now [] seat.old }
-    requires few { length pairs.now ≤ shared.now.plan.changes }
-    ensures worked { HasWorked shared.now pairs.now (not result) seat.new }
+/// Adds the pairs in order, until a call is answered Full, and answers whether all are added. No memory
+/// is taken.
+pub(crate) fn add_pairs(shared: &Shared, seat: &mut Seat, pairs: &[(Key, Value)]) -> bool
+    requires adding { (added : Flows) × IsAdding shared.now added false seat.old × (length added + length pairs.now ≤ shared.now.plan.changes) }
+    ensures added { (added : Flows) → IsAdding shared.now added false seat.old → HasAddedFirst shared.now added pairs.now (not result) seat.new }
     ensures stays { Stays seat.old seat.new }
 {
     for i in 0..pairs.len() {
@@ -78,8 +40,8 @@ fn add_pairs(shared: &Shared, seat: &mut Seat, pairs: &[(Key, Value)]) -> bool
 // Adds the pair, and answers whether it is added. Each further try has a change of another caller to the
 // key's value.
 fn add_pair(shared: &Shared, seat: &mut Seat, key: Key, value: Value) -> bool
-    requires adding { (added : Flows) × IsAdding shared.now added seat.old × (length added < shared.now.plan.changes) }
-    ensures added { (added : Flows) → IsAdding shared.now added seat.old → HasAddedOne shared.now added (key, value) result seat.new }
+    requires adding { (added : Flows) × IsAdding shared.now added false seat.old × (length added < shared.now.plan.changes) }
+    ensures added { (added : Flows) → IsAdding shared.now added false seat.old → HasAddedOne shared.now added (key, value) result seat.new }
     ensures stays { Stays seat.old seat.new }
 {
     let mut there = find(shared, seat, words_of_key(key));

@@ -1,4 +1,4 @@
-use crate::{Ran, Tallied, TallyEnd, drive, tally};
+use crate::{Draw, Ran, Tallied, TallyEnd, drive, tally};
 use call_script::{Counts, read_script};
 use flow_fold::{Key, Value, flows_of, fold};
 use seat_history::Reply;
@@ -147,6 +147,13 @@ fn workers_fold_as_one_thread(rt: HostRuntime) -> Result<(), Fail> {
         (900, 300, 63, 300, 64),
         (2_000, 1_000, 64, 1_000, 512),
         (2_000, 2_000, 4, 4_000, 7),
+        // One batch, one and a part, and fewer batches than workers.
+        (256, 100, 2, 100, 16),
+        (257, 100, 2, 100, 16),
+        (512, 1, 1, 1, 1),
+        (700, 300, 64, 300, 16),
+        (20_000, 1_000, 4, 1_000, 64),
+        (20_000, 1_000, 64, 1_000, 64),
     ];
     for (count, keys, workers, flows, buckets) in rows {
         let pairs = some_pairs(rt.alloc(), count, keys)?;
@@ -185,6 +192,56 @@ fn full_seats_are_too_many_flows(rt: HostRuntime) -> Result<(), Fail> {
     };
     let told = tallied(&rt, rt.alloc(), pairs.as_slice(), size, &OpenGate)?;
     assert!(rt; matches!(told, Err(TallyEnd::TooManyFlows)));
+    Ok(())
+}
+
+// Workers 0 and 1 meet before their first draw, and again before their second.
+#[derive(Drop)]
+struct TwoMeetings {
+    first: MeetGate,
+    second: MeetGate,
+}
+
+impl Gate for TwoMeetings {
+    fn pass(&self, worker: u32, turn: u32) {
+        match turn {
+            0 => self.first.pass(worker, 0),
+            1 => self.second.pass(worker, 0),
+            _ => {}
+        }
+    }
+}
+
+#[test]
+fn two_workers_draw_a_batch_each(rt: HostRuntime) -> Result<(), Fail> {
+    let gate = TwoMeetings {
+        first: MeetGate::new(67_108_864),
+        second: MeetGate::new(67_108_864),
+    };
+    let pairs = some_pairs(rt.alloc(), 512, 1)?;
+    let size = Size {
+        workers: 2,
+        flows: 1,
+        buckets: 1,
+    };
+    let told = tallied(&rt, rt.alloc(), pairs.as_slice(), size, &gate)??;
+    assert!(rt; gate.first.met());
+    assert!(rt; gate.second.met());
+    let flows = flows_of(rt.alloc(), &fold(rt.alloc(), pairs.as_slice())?)?;
+    assert_eq!(rt; told.flows.as_slice(), flows.as_slice());
+    let draws = told.draws.as_slice();
+    let first = draws.first().map(|draw| draw.batch).unwrap_or(2);
+    let each = [
+        Draw {
+            worker: 0,
+            batch: first,
+        },
+        Draw {
+            worker: 1,
+            batch: 1 - first.min(1),
+        },
+    ];
+    assert_eq!(rt; draws, each.as_slice());
     Ok(())
 }
 

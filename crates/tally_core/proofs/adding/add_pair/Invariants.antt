@@ -1,4 +1,4 @@
-use Rattle.std.proofs.Common.{◌-◌, ◌*◌}
+use Rattle.std.proofs.Common.{◌-◌, ◌*◌, false}
 use Rattle.big_atomic.specs.Seats.{Stays}
 use Rattle.flow_fold.specs.Flows.{Flows}
 use Rattle.tally_core.specs.Adding.{key_words}
@@ -7,7 +7,7 @@ use Rattle.tally_core.proofs.adding.add_pair.Given as goal
 
 abbrev pub invariant-tries : goal.invariant-tries
 invariant-tries l = record {
-  trying : (added : Flows) → IsAdding l.shared added l.fn.seat → IsTrying l.shared added (key_words l.key) l.there l.seat;
+  trying : (added : Flows) → IsAdding l.shared added false l.fn.seat → IsTrying l.shared added (key_words l.key) l.there l.seat;
   stays : Stays l.fn.seat l.seat;
 }
 

@@ -1,0 +1,139 @@
+-- A worker of a tally, between its draws.
+use Rattle.std.proofs.Common.{◌≡◌, ◌∙◌, ℕ, ◌+◌, ◌<◌, ◌≤◌, ◌^◌, suc, Bool, true, false, not, List, [], ◌∷◌, ◌++◌, Option, Some, None, append-nil, length, length-append, take, vec_capacity, Vec, refl, sym, ap, subst, arith}
+use Rattle.std.specs.declared.alloc.Global.{Global}
+use Rattle.std.proofs.lemmas.Grind.{flat_map-append}
+use Rattle.std.proofs.lemmas.List.{take_all}
+use Rattle.big_atomic.proofs.Sharing.{ready_quiet}
+use Rattle.flow_fold.specs.Flows.{Flows}
+use Rattle.step_rules.specs.SeatData.{ObjectData, SeatData}
+use Rattle.tally_core.proofs.Attempts.{unused_adding}
+use Rattle.tally_core.proofs.Batches.{few_drawn}
+use Rattle.tally_core.specs.Adding.{HasAdded}
+use Rattle.tally_core.specs.Attempts.{HasAddedFirst, IsAdding}
+use Rattle.tally_core.specs.Drawing.{AreBatchesOf, Drawer, HasBegun, HasDrawn, HasWorked, IsDrawing, TellsDrawn}
+use Rattle.tally_core.specs.Draws.{batch_of, batches_of, drawn_pairs}
+use Rattle.tally_core.specs.Workers.{IsDone}
+use Rattle.worker_gate.specs.Numbers.{AtMostOnce}
+use Rattle.worker_gate.specs.Seats.{BatchSeatData, BatchesData, Draws, IsBatchOf, IsBatchSeat}
+use Rattle.worker_gate.specs.declared.view.BatchPlan.{BatchPlan}
+
+-- before its first draw
+pub begun : {shared : ObjectData} {batches : BatchesData} {pairs : Flows} {one : Drawer} → HasBegun shared batches one → 0 < shared.plan.buckets → IsDrawing shared batches pairs one
+begun {shared} {batches} {pairs} {one} h some = record {
+  tells = h.no_draw.tells;
+  room = h.no_draw.room;
+  not_full = h.no_draw.not_full;
+  adding = subst (λ (l : List ℕ). IsAdding shared (drawn_pairs pairs l) false one.seat) (sym h.no_draw.none) (unused_adding h.unused some);
+}
+
+-- a worker draws no more batches than there are
+pub few_draws : {batches : BatchesData} {one : Drawer} → TellsDrawn batches one → length one.told.drawn.items ≤ batches.plan.count
+few_draws tells = omega (arith, ap length tells.drawn, tells.seat.law.lawful.few, ap (λ (p : BatchPlan). p.count) tells.seat.ours.plan)
+
+pub few_turns : {pairs : Flows} {workers : ℕ} {batches : BatchesData} {one : Drawer} → TellsDrawn batches one → AreBatchesOf pairs workers batches → length pairs ≤ 2 ^ 23
+    → length one.told.drawn.items < 2 ^ 32
+few_turns tells are few = omega (arith, few_draws tells, are.count, few)
+
+-- the worker's stands add the first of these pairs
+has_added : {shared : ObjectData} (pairs : Flows) (full : Bool) (count : ℕ) {seat : SeatData} → count ≤ length pairs → IsAdding shared (take count pairs) full seat
+    → (full ≡ false → count ≡ length pairs) → HasAdded pairs full seat.view.stands
+has_added pairs full count within is all = record { count = count; within = within; added = is.adds; in_range = is.in_range; calls = is.calls; all = all; ends = is.ends }
+
+is_done : {shared : ObjectData} {added : Flows} {full : Bool} {seat : SeatData} → IsAdding shared added full seat → IsDone shared seat
+is_done {shared} {seat = seat} is = record { ours = is.ready.ours; law = is.ready.law; quiet = ready_quiet shared seat is.ready is.none_held }
+
+-- its place at the batches after a draw
+pub record HasPlace (batches : BatchesData) (old : Drawer) (x : Option ℕ) (place : BatchSeatData) : Type 0 where
+  pub draws : Draws old.told.batches place x
+  pub ours : IsBatchOf batches place
+  pub numbers : place.view.numbers ≡ old.told.batches.view.numbers
+  pub law : IsBatchSeat place
+
+module _ {shared : ObjectData} {batches : BatchesData} {pairs : Flows} {old : Drawer} (was : IsDrawing shared batches pairs old) (place : BatchSeatData) where
+  -- no batch was left
+  pub ended : HasPlace batches old None place → HasWorked shared batches pairs (record { seat = old.seat; told = record { batches = place; drawn = old.told.drawn; full = old.told.full } })
+  ended now =
+      let all = drawn_pairs pairs old.told.drawn.items in record {
+        done = is_done was.adding;
+        one = was.adding.one;
+        tells = record {
+          seat = record { ours = now.ours; law = now.law; one = ap length now.numbers ∙ was.tells.seat.one };
+          drawn = was.tells.drawn ∙ ap (λ (s : BatchSeatData). s.view.drawn) (sym now.draws.1);
+        };
+        ended = λ _. ap (λ (s : BatchSeatData). s.view.ended) now.draws.1;
+        added = subst (λ b. HasAdded all b old.seat.view.stands) (sym was.not_full)
+            (has_added all false (length all) (omega arith) (subst (λ (l : Flows). IsAdding shared l false old.seat) (sym (take_all (length all) all (omega arith))) was.adding) (λ _. refl));
+        paid = was.adding.paid;
+      }
+
+  -- a batch was drawn
+  module _ {workers : ℕ} (x : ℕ) (now : HasPlace batches old (Some x) place) (are : AreBatchesOf pairs workers batches) where
+    drawn_is : place.view.drawn ≡ old.told.drawn.items ++ x ∷ []
+    drawn_is = ap (λ (s : BatchSeatData). s.view.drawn) now.draws.1 ∙ ap (λ (l : List ℕ). l ++ x ∷ []) (sym was.tells.drawn)
+
+    pub batch_there : x < batches_of (length pairs)
+    batch_there = omega (arith, now.draws.0, ap (λ (p : BatchPlan). p.count) was.tells.seat.ours.plan, are.count)
+
+    pub draw_fits : length old.told.drawn.items < vec_capacity old.told.drawn
+    draw_fits = omega (
+      arith,
+      now.law.lawful.few,
+      ap length drawn_is,
+      length-append old.told.drawn.items (x ∷ []),
+      ap (λ (p : BatchPlan). p.count) now.ours.plan,
+      was.room,
+    )
+
+    both : drawn_pairs pairs (old.told.drawn.items ++ x ∷ []) ≡ drawn_pairs pairs old.told.drawn.items ++ batch_of pairs x
+    both = flat_map-append (batch_of pairs) old.told.drawn.items (x ∷ []) ∙ ap (λ (l : Flows). drawn_pairs pairs old.told.drawn.items ++ l) (append-nil (batch_of pairs x))
+
+    pub pairs_fit : length (drawn_pairs pairs old.told.drawn.items) + length (batch_of pairs x) ≤ length pairs
+    pairs_fit =
+        let once : AtMostOnce (batches_of (length pairs)) (old.told.drawn.items ++ x ∷ []) = subst (λ (z : ℕ × List ℕ). AtMostOnce z.0 z.1)
+        (λ i. ((ap (λ (p : BatchPlan). p.count) now.ours.plan ∙ are.count) i, drawn_is i)) now.law.lawful.once in
+        omega (
+          arith,
+          few_drawn pairs (old.told.drawn.items ++ x ∷ []) once,
+          ap length both,
+          length-append (drawn_pairs pairs old.told.drawn.items) (batch_of pairs x),
+        )
+
+    take_behind : (a b : Flows) (n : ℕ) → take (length a + n) (a ++ b) ≡ a ++ take n b
+    take_behind [] b n = let e : 0 + n ≡ n = omega arith in ap (λ k. take k b) e
+    take_behind (y ∷ a) b n = let e : suc (length a) + n ≡ suc (length a + n) = omega arith in ap (λ k. take k (y ∷ (a ++ b))) e ∙ ap (λ (l : Flows). y ∷ l) (take_behind a b n)
+
+    -- and its pairs were added, or some of them until one was Full
+    pub went_on : (on : Bool) (drawn : Vec ℕ Global) (seat : SeatData) → drawn.items ≡ old.told.drawn.items ++ x ∷ [] → vec_capacity drawn ≡ vec_capacity old.told.drawn
+        → HasAddedFirst shared (drawn_pairs pairs old.told.drawn.items) (batch_of pairs x) (not on) seat
+        → HasDrawn shared batches pairs on old (record { seat = seat; told = record { batches = place; drawn = drawn; full = not on } })
+    went_on true drawn seat pushed room first =
+        let whole : take first.count (batch_of pairs x) ≡ batch_of pairs x = take_all first.count (batch_of pairs x) (omega (arith, first.all refl)) in (
+          record {
+            tells = record {
+              seat = record { ours = now.ours; law = now.law; one = ap length now.numbers ∙ was.tells.seat.one };
+              drawn = pushed ∙ sym drawn_is;
+            };
+            room = omega (arith, was.room, room);
+            not_full = refl;
+            adding = subst (λ (l : Flows). IsAdding shared l false seat)
+                (ap (λ (l : Flows). drawn_pairs pairs old.told.drawn.items ++ l) whole ∙ (sym both ∙ ap (drawn_pairs pairs) (sym pushed))) first.adding;
+          },
+          omega (arith, ap length pushed, length-append old.told.drawn.items (x ∷ [])),
+        )
+    went_on false drawn seat pushed room first =
+        let front = drawn_pairs pairs old.told.drawn.items in
+        let all = front ++ batch_of pairs x in
+        let same : all ≡ drawn_pairs pairs drawn.items = sym both ∙ ap (drawn_pairs pairs) (sym pushed) in record {
+          done = is_done first.adding;
+          one = first.adding.one;
+          tells = record {
+            seat = record { ours = now.ours; law = now.law; one = ap length now.numbers ∙ was.tells.seat.one };
+            drawn = pushed ∙ sym drawn_is;
+          };
+          ended = λ e. let h : true ≡ false = e in absurd cc;
+          added = subst (λ (l : Flows). HasAdded l true seat.view.stands) same
+              (has_added all true (length front + first.count) (omega (arith, first.within, length-append front (batch_of pairs x)))
+              (subst (λ (l : Flows). IsAdding shared l true seat) (sym (take_behind front (batch_of pairs x) first.count)) first.adding)
+              (λ e. let h : true ≡ false = e in absurd cc));
+          paid = first.adding.paid;
+        }
