@@ -2,46 +2,29 @@
 """Times register_speed beside registers.cpp, prints a table, and draws docs/registers.svg.
 
 usage: plot_registers.py [--calls N] [--runs N] [--registers N] [--share N] [--out FILE]
+                         [--compiler NAME] [--define NAME]..
 
 Both programs make the same calls with the same stream files, in turn; the best of the runs counts.
 The proved program is crates/register_speed/out/register_speed, which `rt run` leaves there.
 """
 import argparse
 import pathlib
-import subprocess
 import tempfile
 
+from programs import NUMBERS_A_THREAD, THREADS, TOP, add_options, compile_plain, proved_program, speed_of, told_by
 from write_stream import SHAPES, write_stream
 
-TOP = pathlib.Path(__file__).resolve().parent.parent
 KINDS = ("load", "store", "mix")
-THREADS = (1, 2, 4)
 PROGRAMS = (("proved", "#1f5fa8", ""), ("C++", "#c2571a", "6 4"))
-NUMBERS_A_THREAD = 1 << 20
 PANEL_WIDTH, PANEL_HEIGHT, GAP, TOP_MARGIN = 220, 170, 60, 50
 
 
-def compile_plain(folder: str, name: str) -> str:
-    """The yardstick of this name in bench/, compiled."""
-    program = f"{folder}/{name}"
-    source = str(TOP / f"bench/{name}.cpp")
-    subprocess.run(["g++", "-O2", "-std=c++17", "-pthread", "-o", program, source], check=True)
-    return program
-
-
-def told_by(program: str, words: list[str]) -> tuple[str, dict]:
-    """The line of a timed run, and what stands in it behind each word."""
-    line = subprocess.run([program, "time", *words], check=True, capture_output=True, text=True).stdout
-    told = line.split()
-    return line, dict(zip(told[::2], told[1::2]))
-
-
-def speed_of(program: str, words: list[str]) -> float:
+def run_once(program: str, words: list[str]) -> float:
     """Million calls a second. A line with other calls than were asked ends the script."""
-    line, found = told_by(program, words)
+    line, found = told_by([program], words)
     if int(found["calls"]) != int(words[0]) * int(words[2]) or found["done"] != found["calls"]:
         raise SystemExit(f"{program} {' '.join(words)}: {line}")
-    return int(found["calls"]) / max(1, int(found["microseconds"]))
+    return speed_of(found)
 
 
 def measure(programs: list[str], asked: argparse.Namespace, folder: str) -> dict:
@@ -57,7 +40,7 @@ def measure(programs: list[str], asked: argparse.Namespace, folder: str) -> dict
                 for _ in range(asked.runs):
                     for place, program in enumerate(programs):
                         key = (shape, kind, threads, place)
-                        best[key] = max(best.get(key, 0), speed_of(program, [*words, kind, stream]))
+                        best[key] = max(best.get(key, 0), run_once(program, [*words, kind, stream]))
     return best
 
 
@@ -139,10 +122,11 @@ def main() -> None:
     words.add_argument("--registers", type=int, default=16)
     words.add_argument("--share", type=int, default=64, help="nodes of each thread; few scans want many")
     words.add_argument("--out", default=str(TOP / "docs/registers.svg"))
+    add_options(words)
     asked = words.parse_args()
     with tempfile.TemporaryDirectory() as folder:
-        proved = str(TOP / "crates/register_speed/out/register_speed")
-        best = measure([proved, compile_plain(folder, "registers")], asked, folder)
+        programs = [proved_program("register_speed"), compile_plain(folder, "registers", asked)]
+        best = measure(programs, asked, folder)
     print_table(best)
     pathlib.Path(asked.out).write_text(draw(best, asked))
 

@@ -2,6 +2,7 @@
 """Times tallies beside tally.cpp, prints a table, and draws docs/tally.svg.
 
 usage: plot_tally.py [--megabytes N] [--flows N] [--runs N] [--out FILE]
+                     [--compiler NAME] [--define NAME]..
 
 The input is written by write_export.py, under both shapes. The proved program is
 crates/flow_tally/out/flow_tally, which `rt run` leaves there. The best wall time of the runs counts.
@@ -12,7 +13,7 @@ import subprocess
 import tempfile
 import time
 
-from plot_registers import TOP
+from programs import TOP, add_options, proved_program
 from write_stream import SHAPES
 
 WORKERS = (1, 2, 4)
@@ -26,15 +27,17 @@ PROGRAMS = (
 WIDTH, HEIGHT, LEFT, TOP_MARGIN, BAR = 900, 300, 60, 50, 22
 
 
-def compile_all(folder: str) -> list[list[str]]:
+def compile_all(folder: str, asked: argparse.Namespace) -> list[list[str]]:
     """The commands of the programs, without workers and file."""
     commands = []
     for name, _, flags, _ in PROGRAMS:
         if flags is None:
-            commands.append([str(TOP / "crates/flow_tally/out/flow_tally"), "tally"])
+            commands.append([proved_program("flow_tally"), "tally"])
             continue
         program = f"{folder}/{name.replace(' ', '_').replace('/', '_')}"
-        subprocess.run(["g++", "-O2", "-std=c++17", "-pthread", *flags, "-o", program, str(TOP / "bench/tally.cpp")], check=True)
+        options = [*flags, *(f"-D{word}" for word in asked.define)]
+        source = str(TOP / "bench/tally.cpp")
+        subprocess.run([asked.compiler, "-O2", "-std=c++17", "-pthread", *options, "-o", program, source], check=True)
         commands.append([program])
     return commands
 
@@ -112,9 +115,10 @@ def main() -> None:
     words.add_argument("--flows", type=int, default=64_000)
     words.add_argument("--runs", type=int, default=5)
     words.add_argument("--out", default=str(TOP / "docs/tally.svg"))
+    add_options(words)
     asked = words.parse_args()
     with tempfile.TemporaryDirectory() as folder:
-        best = measure(compile_all(folder), asked, folder)
+        best = measure(compile_all(folder, asked), asked, folder)
     print_table(best)
     with open(asked.out, "w") as out:
         out.write(draw(best))

@@ -1,7 +1,8 @@
 // A plain C++ program that does what `tally FILE` does: the yardstick of its speed.
 //   g++ -O2 -std=c++17 -o tally_map tally.cpp                      std::map throughout
 //   g++ -O2 -std=c++17 -DHASHED -o tally_hashed tally.cpp          std::unordered_map, sorted at the end
-//   g++ -O2 -std=c++17 -pthread -DSHARED -o tally_shared tally.cpp the shared table, by the steps and the plan of `tally`: FILE [WORKERS FLOWS BUCKETS]
+//   g++ -O2 -std=c++17 -pthread -DSHARED -o tally_shared tally.cpp the shared table, by the steps and the plan of `tally`: FILE [WORKERS FLOWS BUCKETS];
+//                                                                  options: shared_object.h
 #include <algorithm>
 #include <cinttypes>
 #include <cstdint>
@@ -109,13 +110,13 @@ static bool add_part(TableSeat &seat, const std::vector<Flow> &pairs, size_t fro
 static std::vector<Flow> flows_in(Object &object, uint32_t buckets) {
     std::vector<Flow> flows;
     for (uint32_t bucket = 0; bucket < buckets; bucket++) {
-        uint64_t next = object.backup(bucket).load() / 2 + 1;
+        uint64_t next = object.backup_load(bucket) / 2 + 1;
         while (next != 0) {
             uint32_t node = next - 1;
-            next = object.node(node, WIDTH).load();
+            next = object.node_load(node, WIDTH);
             if (next == END) break;
-            Value words{object.node(node, 2).load(), object.node(node, 3).load(), object.node(node, 4).load()};
-            flows.push_back({{object.node(node, 0).load(), object.node(node, 1).load()}, sums_of(words)});
+            Value words{object.node_load(node, 2), object.node_load(node, 3), object.node_load(node, 4)};
+            flows.push_back({{object.node_load(node, 0), object.node_load(node, 1)}, sums_of(words)});
         }
     }
     std::sort(flows.begin(), flows.end(), is_before);

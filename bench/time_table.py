@@ -1,7 +1,7 @@
 #!/usr/bin/env python3
 """Times table_speed beside table.cpp, and prints a table of the best runs.
 
-usage: time_table.py [--calls N] [--runs N]
+usage: time_table.py [--calls N] [--runs N] [--compiler NAME] [--define NAME]..
 
 Both programs make the same calls with the same stream files, in turn. The proved program is
 crates/table_speed/out/table_speed, which `rt run` leaves there.
@@ -9,7 +9,7 @@ crates/table_speed/out/table_speed, which `rt run` leaves there.
 import argparse
 import tempfile
 
-from plot_registers import NUMBERS_A_THREAD, THREADS, TOP, compile_plain, told_by
+from programs import NUMBERS_A_THREAD, THREADS, add_options, compile_plain, proved_program, speed_of, told_by
 from write_stream import SHAPES, write_stream
 
 KINDS = ("find", "insert", "mix", "sum")
@@ -17,13 +17,13 @@ KINDS = ("find", "insert", "mix", "sum")
 SIZES = ((1_000, 1 << 10, 4_096), (1_000_000, 1 << 20, 1 << 21))
 
 
-def speed_of(program: str, words: list[str]) -> float:
+def run_once(program: str, words: list[str]) -> float:
     """Million timed calls a second. A line with other calls than were asked ends the script."""
-    line, told = told_by(program, words)
+    line, told = told_by([program], words)
     calls = int(told["calls"])
     if calls != int(words[0]) * int(words[3]) or int(told["done"]) != calls + int(told["filled"]):
         raise SystemExit(f"{program} {' '.join(words)}: {line}")
-    return calls / max(1, int(told["microseconds"]))
+    return speed_of(told)
 
 
 def best_of(programs: list[str], words: list[str], runs: int) -> list[float]:
@@ -31,7 +31,7 @@ def best_of(programs: list[str], words: list[str], runs: int) -> list[float]:
     best = [0.0] * len(programs)
     for _ in range(runs):
         for place, program in enumerate(programs):
-            best[place] = max(best[place], speed_of(program, words))
+            best[place] = max(best[place], run_once(program, words))
     return best
 
 
@@ -39,11 +39,12 @@ def main() -> None:
     words = argparse.ArgumentParser(description=__doc__.split("\n")[0])
     words.add_argument("--calls", type=int, default=1_000_000, help="timed calls of each thread")
     words.add_argument("--runs", type=int, default=5)
+    add_options(words)
     asked = words.parse_args()
     print("| keys | stream | calls | " + " | ".join(f"{n} threads, proved | {n} threads, C++" for n in THREADS) + " |")
     print("|" + "---|" * (3 + 2 * len(THREADS)))
     with tempfile.TemporaryDirectory() as folder:
-        programs = [str(TOP / "crates/table_speed/out/table_speed"), compile_plain(folder, "table")]
+        programs = [proved_program("table_speed"), compile_plain(folder, "table", asked)]
         for keys, buckets, share in SIZES:
             for shape in SHAPES:
                 stream = f"{folder}/{shape}"
