@@ -1,4 +1,4 @@
-use Rattle.std.proofs.Common.{None, refl}
+use Rattle.std.proofs.Common.{None, refl, rules}
 use Rattle.big_atomic.proofs.Answered.{goes_of, may_answer}
 use Rattle.big_atomic.proofs.InlineReads.{read_once, read_ours}
 use Rattle.big_atomic.proofs.Loaded.{fallen, fallen_caused, falls_back, inline_loaded, inline_may_end, inline_ready}
@@ -23,7 +23,7 @@ returns-in-Words c =
 -- a claim does
 pub answer_now-requires : goal.answer_now-requires
 answer_now-requires c =
-    let f = falls_back c.read_inline.result c.in_default.not-Words (read_once c.read_inline.result c.read_inline.ensures.answer c.read_inline.ensures.only c.read_inline.ensures.law)
+    let f = falls_back c.read_inline.result (search rules) (read_once c.read_inline.result c.read_inline.ensures.answer c.read_inline.ensures.only c.read_inline.ensures.law)
     c.claim_record-found.ensures.claimed in
     record {
       ours = goes_of (c.claim_record-found.ensures.claimed.0.0.goes None) (read_ours c.read_inline.ensures.only c.requires.ready.ours);
@@ -32,7 +32,7 @@ answer_now-requires c =
 
 pub returns-in_default : goal.returns-in_default
 returns-in_default c =
-    let f = falls_back c.read_inline.result c.in_default.not-Words (read_once c.read_inline.result c.read_inline.ensures.answer c.read_inline.ensures.only c.read_inline.ensures.law)
+    let f = falls_back c.read_inline.result (search rules) (read_once c.read_inline.result c.read_inline.ensures.answer c.read_inline.ensures.only c.read_inline.ensures.law)
     c.claim_record-found.ensures.claimed in
     let r = has_read c.requires.ready c.requires.there (fallen f) in
     record {
