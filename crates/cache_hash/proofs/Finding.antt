@@ -1,52 +1,51 @@
--- A find as far as it has come, and its end.
-use Rattle.std.proofs.Common.{◌≡◌, ◌≢◌, ◌∙◌, ℕ, ◌*◌, ◌-◌, ◌/◌, ◌<◌, ◌≤◌, List, [], ◌∷◌, ◌++◌, Option, Some, None, length, take, drop, refl, sym, ap, subst, arith}
+-- A find that goes by claims as far as it has come, and its end.
+use Rattle.std.proofs.Common.{◌*◌, ◌++◌, ◌-◌, ◌/◌, ◌<◌, ◌∙◌, ◌∷◌, ◌≡◌, ◌≤◌, List, None, Option, Some, [], ap, arith}
+use Rattle.std.proofs.Common.{drop, length, refl, subst, sym, take, ℕ}
 use Rattle.std.proofs.Math.ListN.{drop_of_length-le}
-use Rattle.std.specs.Option.{option_map_or}
-use Rattle.big_atomic.proofs.Answered.{MayEnd, answered_now, ended_back, goes_of, hold_stays, may_answer, ready_now, right_at}
-use Rattle.big_atomic.proofs.Balance.{nodes_stay}
+use Rattle.big_atomic.proofs.Answered.{clear_step, ended_back, goes_of, of_then, ready_now}
 use Rattle.big_atomic.proofs.Claimed.{looks_then, lost_longer}
 use Rattle.big_atomic.proofs.Goings.{goes_then, looked_then}
 use Rattle.big_atomic.proofs.Pacing.{paces_then, paces_within}
-use Rattle.big_atomic.proofs.Paid.{exchanges-append, scan_loads-append}
+use Rattle.big_atomic.proofs.Paid.{claim_stores-append}
+use Rattle.big_atomic.proofs.InlineReads.{HasReadOnce, read_once, read_goes, read_looked, read_stays}
 use Rattle.big_atomic.specs.Calling.{Goes, HasClaim, HasClaimed, HasSeen, Paces}
-use Rattle.big_atomic.specs.Calls.{IsQuiet}
 use Rattle.big_atomic.specs.Ready.{IsReady}
+use Rattle.big_atomic.specs.Turns.{claim_stores}
+use Rattle.cache_hash.proofs.FirstNode.{missed_caused, missed_more, misses}
+use Rattle.cache_hash.proofs.Found.{MayFind, find_hold, find_right, found_now, never_full, value_of_cell}
 use Rattle.cache_hash.proofs.Walking.{Lost, OnlyLooks, Way, cleared_part, come_way, moved_lost, way_kept}
 use Rattle.cache_hash.specs.Calls.{IsFound, find_reply, value_at as value_here}
-use Rattle.cache_hash.specs.Finding.{Finding, KnowsValue}
+use Rattle.cache_hash.specs.Finding.{Finding, HasMissed, KnowsValue}
+use Rattle.cache_hash.specs.Firsts.{BeginsMissed}
 use Rattle.chain_links.proofs.Passing.{back_claim, kept_back}
 use Rattle.chain_links.specs.Walking.{HasBack, HasCome, IsWalked, MadeNoChange, NoneOf}
 use Rattle.chain_links.specs.declared.answers.Walk.TheVariants.{Found, End, Moved}
 use Rattle.hazard_claims.specs.Scanning.{ClearsWalk}
-use Rattle.seat_history.specs.Contents.{Contents}
 use Rattle.seat_history.specs.History.{state_at}
 use Rattle.seat_history.specs.Key.{key_number}
 use Rattle.seat_history.specs.declared.call.Call.TheVariants.{Find}
 use Rattle.seat_history.specs.declared.entry.Entry.{Entry}
 use Rattle.seat_history.specs.declared.key.KeyWords.{KeyWords}
-use Rattle.seat_history.specs.declared.reply.Reply.TheVariants.{Absent, Full, Val}
-use Rattle.step_rules.proofs.Order.BucketOf.{key_there}
-use Rattle.step_rules.proofs.Ties.Notes.{only_stepped_then}
-use Rattle.step_rules.proofs.Order.RecordsAt.{records_since}
-use Rattle.step_rules.proofs.Order.RecordsTell.{value_at}
 use Rattle.step_rules.proofs.Line.Trails.{longer_seen}
-use Rattle.step_rules.specs.Claims.{BACK, HOLD, On, OWN, WALK}
+use Rattle.step_rules.proofs.Order.BucketOf.{key_there}
+use Rattle.step_rules.proofs.Order.RecordsAt.{records_since}
+use Rattle.step_rules.proofs.Ties.Notes.{only_stepped_then}
+use Rattle.step_rules.specs.Claims.{BACK, HOLD, OWN, On}
 use Rattle.step_rules.specs.History.{key_cell}
 use Rattle.step_rules.specs.Layout.{cells}
-use Rattle.step_rules.specs.Lawful.{IsReply, held_by}
 use Rattle.step_rules.specs.Records.{records_at, records_of, value_in}
 use Rattle.step_rules.specs.SeatData.{IsOf, IsSeat, ObjectData, SeatData}
 use Rattle.step_rules.specs.Sound.{Sound}
-use Rattle.step_rules.specs.Steps.{MayAnswer, stepped, unnoted}
-use Rattle.step_rules.specs.Views.{claim_of, claimed_records, cleared_view, counted, number, stock, stood_view}
+use Rattle.step_rules.specs.Steps.{stepped, unnoted}
+use Rattle.step_rules.specs.Views.{claim_of, claimed_records, cleared_view, stood_view}
 use Rattle.step_rules.specs.declared.plan.Plan.{Plan}
 use Rattle.step_rules.specs.declared.view.Claim.{Claim}
 use Rattle.step_rules.specs.declared.view.Counted.{Counted}
-use Rattle.step_rules.specs.declared.view.Kind.TheVariants.{ClaimClear}
-use Rattle.step_rules.specs.declared.view.Stand.{Stand}
 use Rattle.step_rules.specs.declared.view.View.{View}
 
-pub finding_first : (cell word : ℕ) (before now : SeatData) → HasSeen BACK cell word 1 before now → Finding cell before now
+-- A find as far as it has come, and its end.
+
+abbrev pub finding_first : (cell word : ℕ) (before now : SeatData) → HasSeen BACK cell word 1 before now → Finding cell before now
 finding_first cell word before now s = record {
   steps = s.steps;
   look = s.look;
@@ -86,7 +85,7 @@ seen_part cell word mid now s = record {
   own = s.stays.others OWN (λ e. absurd (omega arith));
 }
 
-pub finding_again : (cell word : ℕ) (before mid now : SeatData) (f : Finding cell before mid) → Paces 0 0 f.steps → HasSeen BACK cell word 1 mid now → Finding cell before now
+abbrev pub finding_again : (cell word : ℕ) (before mid now : SeatData) (f : Finding cell before mid) → Paces 0 0 f.steps → HasSeen BACK cell word 1 mid now → Finding cell before now
 finding_again cell word before mid now f paced s = finding_on cell s.steps before mid now f paced (seen_part cell word mid now s) (omega arith)
 
 pub has_back : (cell word : ℕ) (seat : SeatData) → HasClaim BACK cell word seat → HasBack cell seat.view
@@ -110,13 +109,11 @@ way_records cell seen first mid now b w =
     records_since v.plan v.seen x.at cell w.calm
     ∙ (ap (λ k. records_at v.plan (take x.at v.seen) k) (sym back.cell_is) ∙ sym (back_claim cell v w.part.goes.sound back).records)
 
--- so what it has for the key is the key's value there
+-- where the claimed chain has the cell's records, what it has for the key is the key's value at the end of what is seen
 pub value_of_records : (cell : ℕ) (key : KeyWords) (v : View) (found : Option (List ℕ)) → Sound v → cell ≡ key_cell v.plan (key_number key)
     → records_at v.plan v.seen cell ≡ claimed_records v → value_in (claimed_records v) (key_number key) ≡ found → value_here v (length v.seen) key ≡ found
 value_of_records cell key v found sound cell_is records value =
-    let n : ℕ = key_number key in
-    sym (value_at v.plan v.seen n (λ i e at. (sound.history.each i e at).there))
-    ∙ (ap (λ k. value_in (records_at v.plan v.seen k) n) (sym cell_is) ∙ (ap (λ rs. value_in rs n) records ∙ value))
+    value_of_cell cell key v found sound cell_is (ap (λ rs. value_in rs (key_number key)) records ∙ value)
 
 -- a walk that came to its end: the claimed chain has this for the key, and so has the map at the end of what is seen
 pub record OnWay (cell word : ℕ) (key : KeyWords) (found : Option (List ℕ)) (mid now : SeatData) : Type 0 where
@@ -158,94 +155,32 @@ module _ (cell word : ℕ) (key : KeyWords) (mid now : SeatData) (claim : HasCla
   pub way_lost : IsWalked cell key Moved mid now → Lost cell mid now
   way_lost k = moved_lost cell (2 * k.node) word mid now claim (same_node cell word k.node mid claim k.back) b k.says
 
+pub more_stored : (a b : List Counted) → 0 < claim_stores a → 0 < claim_stores (a ++ b)
+more_stored a b some = omega (arith, claim_stores-append a b)
+
+pub stored_more : (a b : List Counted) → 0 < claim_stores b → 0 < claim_stores (a ++ b)
+stored_more a b some = omega (arith, claim_stores-append a b)
+
 -- a find's walk answered: more was looked at, and the key's value is this
 pub record Walked (cell : ℕ) (key : KeyWords) (found : Option (List ℕ)) (before now : SeatData) : Type 0 where
   pub finding : Finding cell before now
+  pub stored : 0 < claim_stores finding.steps
   pub value : value_here now.view (length now.view.seen) key ≡ found
 
-walked : {cell word : ℕ} {key : KeyWords} {found : Option (List ℕ)} {before mid now : SeatData} → Finding cell before mid → OnWay cell word key found mid now → Walked cell key found before now
-walked {cell} {before = before} {mid = mid} {now = now} f o = record { finding = finding_on cell o.way.steps before mid now f f.paced o.way.part (omega arith); value = o.value }
+walked : {cell word : ℕ} {key : KeyWords} {found : Option (List ℕ)} {before mid now : SeatData} (f : Finding cell before mid) → 0 < claim_stores f.steps → OnWay cell word key found mid now
+    → Walked cell key found before now
+walked {cell} {before = before} {mid = mid} {now = now} f stored o = record {
+  finding = finding_on cell o.way.steps before mid now f f.paced o.way.part (omega arith);
+  stored = more_stored f.steps o.way.steps stored;
+  value = o.value;
+}
 
 pub longer : (cell : ℕ) (mid now : SeatData) → Lost cell mid now → length mid.view.seen < length now.view.seen
 longer cell mid now l = lost_longer cell (length mid.view.seen) now.view.plan now.view.seen l.changed
 
-reply_is : (p : Plan) (stock : ℕ) (contents : Contents) (log : List Entry) (held : Option (List ℕ)) (key : KeyWords) (found : Option (List ℕ)) → contents.values (key_number key) ≡ found
-    → IsReply p stock contents log held (Find key) (find_reply found)
-reply_is p stock contents log held key None e = ap (λ (o : Option (List ℕ)). option_map_or Val o Absent) e
-reply_is p stock contents log held key (Some val) e = ap (λ (o : Option (List ℕ)). option_map_or Val o Absent) e
-
-never_full : (found : Option (List ℕ)) (need free : ℕ) → find_reply found ≢ Full need free
-never_full None need free e = absurd cc
-never_full (Some val) need free e = absurd cc
-
--- a find may be answered
-pub record MayFind (key : KeyWords) (found : Option (List ℕ)) (before now : SeatData) : Type 0 where
-  pub first : IsSeat before
-  pub idle : before.holding ≡ []
-  pub some : 0 < before.view.plan.buckets
-  pub finding : Finding (key_cell before.view.plan (key_number key)) before now
-  pub value : value_here now.view (length now.view.seen) key ≡ found
-  pub walk : (claim_of WALK now.view).word ≡ 0
-
-module _ {key : KeyWords} {found : Option (List ℕ)} {before now : SeatData} (m : MayFind key found before now) where
-  abbrev k : ℕ
-  k = key_cell before.view.plan (key_number key)
-
-  abbrev f : Finding k before now
-  f = m.finding
-
-  goes : Goes k None f.steps before now
-  goes = f.goes None
-
-  plan : now.view.plan ≡ before.view.plan
-  plan = ap (λ (z : View). z.plan) goes.only
-
-  pub find_ends : MayEnd k f.look (length now.view.seen) (Find key) (find_reply found) f.steps before now
-  find_ends = record {
-    goes = goes;
-    looked = f.looked;
-    paced = f.paced;
-    first = m.first;
-    on = ap (λ (p : Plan). key_cell p (key_number key)) plan;
-    late = f.looked.upto;
-    right = right_at now.view (length now.view.seen) (Find key) (find_reply found) (omega arith) (record { there = subst (λ (p : Plan). 0 < p.buckets) (sym plan) m.some; may = tt })
-        (reply_is now.view.plan (stock now.view) (state_at now.view.seen (length now.view.seen)) (take (length now.view.seen) now.view.seen)
-        (held_by now.view.seen (number now.view) now.view.stands) key found m.value)
-        refl;
-    idle = m.idle;
-    idle_now = ap (λ (z : SeatData). z.holding) f.same ∙ m.idle;
-    full = λ need free e. absurd (never_full found need free e);
-  }
-
-  pub may_find : MayAnswer (length now.view.seen) (Find key) (find_reply found) now
-  may_find = may_answer find_ends
-
-  abbrev FindStood : SeatData → Type 0
-  FindStood after = after ≡ stepped (stood_view (length now.view.seen) (Find key) (find_reply found) (cleared_view BACK now.view)) (unnoted BACK now)
-
-  pub found_now : (after : SeatData) → FindStood after → IsSeat after → IsFound key found before after
-  found_now after is last =
-      let e = ended_back now goes.sound in
-      let a = answered_now after find_ends e is last in record {
-        answered = a.answered;
-        nodes = nodes_stay (λ rs. (refl, refl)) a.answered;
-        there = ap (λ (s : Stand). value_here after.view s.place key) a.stand_is ∙ (ap (λ (z : SeatData). value_here z.view (length now.view.seen) key) is ∙ m.value);
-        quiet = subst (λ (l : List Counted). IsQuiet l before after) (sym a.steps_are) (record {
-          free = ap (λ (z : SeatData). z.free) is ∙ ap (λ (z : SeatData). z.free) f.same;
-          retired = ap (λ (z : SeatData). z.view.retired) is ∙ f.retired;
-          none_exchanged = omega (arith, exchanges-append f.steps (counted (ClaimClear BACK) 0 (length now.view.seen) ∷ []), f.looks.none_exchanged);
-          none_scanned = omega (arith, scan_loads-append f.steps (counted (ClaimClear BACK) 0 (length now.view.seen) ∷ []), f.looks.none_scanned);
-        });
-        hold = hold_stays after find_ends e is f.hold (λ contents held. refl);
-      }
-
-  pub find_ready : (shared : ObjectData) (after : SeatData) → IsReady shared before → FindStood after → IsSeat after → IsReady shared after
-  find_ready shared after ready is law = ready_now shared after ready find_ends is law m.walk (ap (λ (x : Claim). x.word) f.own ∙ ready.own)
-      (hold_stays after find_ends (ended_back now goes.sound) is f.hold (λ contents held. refl))
-
--- a find that began with a ready seat
+-- CLAIMS: a find that goes by them, since its seat was `before`
 pub record Begun (shared : ObjectData) (key : KeyWords) (cell : ℕ) (before : SeatData) : Type 0 where
-  pub ready : IsReady shared before
+  pub ours : IsOf shared before
   pub some : 0 < shared.plan.buckets
   pub cell_is : cell ≡ key_cell shared.plan (key_number key)
 
@@ -253,22 +188,26 @@ pub record Begun (shared : ObjectData) (key : KeyWords) (cell : ℕ) (before : S
 pub record Claimed (shared : ObjectData) (key : KeyWords) (cell : ℕ) (before now : SeatData) : Type 0 where
   pub begun : Begun shared key cell before
   pub finding : Finding cell before now
+  pub stored : 0 < claim_stores finding.steps
   pub word : ℕ
   pub claim : HasClaim BACK cell word now
 
-pub of_finding : {shared : ObjectData} {cell : ℕ} {before now : SeatData} → IsReady shared before → Finding cell before now → IsOf shared now
-of_finding ready f = goes_of (f.goes None) ready.ours
+pub of_finding : {shared : ObjectData} {cell : ℕ} {before now : SeatData} → IsOf shared before → Finding cell before now → IsOf shared now
+of_finding ours f = goes_of (f.goes None) ours
 
 pub claimed_first : (shared : ObjectData) (key : KeyWords) (cell word : ℕ) (before now : SeatData)
     → Begun shared key cell before → HasClaimed BACK cell word before now → Claimed shared key cell before now
-claimed_first shared key cell word before now b h = record { begun = b; finding = finding_first cell word before now h.0; word = word; claim = h.1 }
+claimed_first shared key cell word before now b h = record {
+  begun = b;
+  finding = finding_first cell word before now h.0;
+  stored = h.0.stored (omega arith);
+  word = word;
+  claim = h.1;
+}
 
 module _ {shared : ObjectData} {key : KeyWords} {cell : ℕ} {before mid : SeatData} (c : Claimed shared key cell before mid) where
-  own_cell : cell ≡ key_cell before.view.plan (key_number key)
-  own_cell = c.begun.cell_is ∙ ap (λ (p : Plan). key_cell p (key_number key)) (sym c.begun.ready.ours.plan)
-
   cell_now : cell ≡ key_cell mid.view.plan (key_number key)
-  cell_now = let g : Goes cell None c.finding.steps before mid = c.finding.goes None in own_cell ∙ ap (λ (z : View). key_cell z.plan (key_number key)) (sym g.only)
+  cell_now = c.begun.cell_is ∙ ap (λ (p : Plan). key_cell p (key_number key)) (sym (of_finding c.begun.ours c.finding).plan)
 
   pub inside : cell < cells shared.plan
   inside = subst (λ j. j < cells shared.plan) (sym c.begun.cell_is) (key_there shared.plan (key_number key) c.begun.some)
@@ -277,10 +216,10 @@ module _ {shared : ObjectData} {key : KeyWords} {cell : ℕ} {before mid : SeatD
   back_there = has_back cell c.word mid c.claim
 
   pub finds_value : (at : ℕ) (val : List ℕ) (now : SeatData) → IsWalked cell key (Found at val) mid now → Walked cell key (Some val) before now
-  finds_value at val now w = walked c.finding (way_found cell c.word key mid now c.claim cell_now at val w)
+  finds_value at val now w = walked c.finding c.stored (way_found cell c.word key mid now c.claim cell_now at val w)
 
   pub finds_none : (count : ℕ) (now : SeatData) → IsWalked cell key (End count) mid now → Walked cell key None before now
-  finds_none count now w = walked c.finding (way_end cell c.word key mid now c.claim cell_now count w)
+  finds_none count now w = walked c.finding c.stored (way_end cell c.word key mid now c.claim cell_now count w)
 
   pub loses : (now : SeatData) → IsWalked cell key Moved mid now → Lost cell mid now
   loses now w = way_lost cell c.word key mid now c.claim cell_now w
@@ -293,6 +232,7 @@ module _ {shared : ObjectData} {key : KeyWords} {cell : ℕ} {before mid : SeatD
     begun = c.begun;
     finding = finding_again cell word before lost now (lost_finding lost l)
         (paces_then c.finding.paced l.part.paced) h.0;
+    stored = more_stored (c.finding.steps ++ l.steps) h.0.steps (more_stored c.finding.steps l.steps c.stored);
     word = word;
     claim = h.1;
   }
@@ -307,30 +247,110 @@ module _ {shared : ObjectData} {key : KeyWords} {cell : ℕ} {before mid : SeatD
       let plan : now.view.plan ≡ mid.view.plan = ap (λ (z : View). z.plan) g.only ∙ ap (λ (z : View). z.plan) l.part.goes.only in
       let seats = ap (λ (p : Plan). p.seats * p.changes) plan in omega arith
 
-  pub knows : {found : Option (List ℕ)} {now : SeatData} → Walked cell key found before now → KnowsValue shared key found before now
-  knows {now = now} w = record {
-    ready = c.begun.ready;
-    some = c.begun.some;
-    finding = subst (λ j. Finding j before now) own_cell w.finding;
-    value = w.value;
-  }
+-- the inline words were read before, and don't tell
+module _ {shared : ObjectData} {key : KeyWords} {cell : ℕ} {before mid : SeatData} (h : HasMissed shared key cell before mid) where
+  abbrev missed_read : HasReadOnce cell h.missed.answer before mid
+  missed_read = read_once h.missed.answer h.missed.read h.missed.only h.law
+
+  pub missed_begun : Begun shared key cell mid
+  missed_begun =
+      let same = h.missed.only.same in record {
+        ours = of_then (ap (λ (z : SeatData). z.object) same) (ap (λ (z : SeatData). z.view.plan) same) h.ready.ours;
+        some = h.some;
+        cell_is = h.cell_is ∙ ap (λ (p : Plan). key_cell p (key_number key)) h.ready.ours.plan;
+      }
+
+  pub missed_inside : cell < cells shared.plan
+  missed_inside = let b = missed_begun in subst (λ j. j < cells shared.plan) (sym b.cell_is) (key_there shared.plan (key_number key) b.some)
+
+  abbrev missed_then : {now : SeatData} → Finding cell mid now → Finding cell before now
+  missed_then {now} f =
+      let r = missed_read.once in
+      let l = read_looked r f.goes f.looked in
+      let none = r.none_claimed in
+      let none_tried = r.looks.none_exchanged in
+      let stays = read_stays r BACK in record {
+        steps = missed_read.steps ++ f.steps;
+        look = l.0;
+        goes = read_goes r f.goes;
+        looked = l.1;
+        looks = looks_then missed_read.steps f.steps r.looks f.looks;
+        paced = paces_then {mid = 0} (record { rounds = omega arith; tries = omega arith }) f.paced;
+        same = only_stepped_then before mid now stays.same f.same;
+        retired = f.retired ∙ stays.retired;
+        hold = f.hold ∙ stays.others HOLD (λ e. absurd (omega arith));
+        own = f.own ∙ stays.others OWN (λ e. absurd (omega arith));
+      }
+
+  pub knows : {found : Option (List ℕ)} {now : SeatData} → Walked cell key found mid now → KnowsValue shared key found before now
+  knows {found} {now} w =
+      let missed : BeginsMissed cell key (missed_read.steps ++ w.finding.steps) = record {
+        read = missed_read.steps;
+        rest = w.finding.steps;
+        none = missed_read.once.none_stored;
+        shown = misses h.missed missed_read;
+        whole = refl;
+      } in
+      let t = subst (λ j. (f : Finding j before now) × BeginsMissed j key f.steps × (0 < claim_stores f.steps)) h.cell_is
+      (missed_then w.finding, missed, stored_more missed_read.steps w.finding.steps w.stored) in record {
+        ready = h.ready;
+        some = h.some;
+        finding = t.0;
+        missed = t.1;
+        stored = t.2;
+        value = w.value;
+      }
+
+-- a find that went by claims may be answered
+pub record MayEndFind (key : KeyWords) (found : Option (List ℕ)) (before now : SeatData) : Type 0 where
+  pub steps : List Counted
+  pub may : MayFind key found steps before now
+  pub missed : BeginsMissed (key_cell before.view.plan (key_number key)) key steps
+  pub stored : 0 < claim_stores steps
 
 pub may_end : {shared : ObjectData} {key : KeyWords} {found : Option (List ℕ)} {before now : SeatData} (cleared : SeatData) → KnowsValue shared key found before now → ClearsWalk now cleared
-    → Sound cleared.view → MayFind key found before cleared
-may_end {key = key} {before = before} {now = now} cleared k clears sound =
-    let g : Goes (key_cell before.view.plan (key_number key)) None k.finding.steps before now = k.finding.goes None in
-    let c = cleared_part (key_cell before.view.plan (key_number key)) now cleared (ap (λ (z : SeatData). z.fresh) k.finding.same) g.sound sound clears in record {
-      first = k.ready.law;
-      idle = k.ready.idle;
-      some = subst (λ (p : Plan). 0 < p.buckets) (sym k.ready.ours.plan) k.some;
-      finding = finding_on (key_cell before.view.plan (key_number key)) c.steps before now cleared k.finding k.finding.paced c.part (omega arith);
-      value = ap (λ (l : List Entry). (state_at l (length l)).values (key_number key)) c.seen ∙ k.value;
-      walk = c.none;
+    → Sound cleared.view → MayEndFind key found before cleared
+may_end {shared = shared} {key = key} {found = found} {before = before} {now = now} cleared k clears sound =
+    let cell : ℕ = key_cell before.view.plan (key_number key) in
+    let g : Goes cell None k.finding.steps before now = k.finding.goes None in
+    let c = cleared_part cell now cleared (ap (λ (z : SeatData). z.fresh) k.finding.same) g.sound sound clears in
+    let f : Finding cell before cleared = finding_on cell c.steps before now cleared k.finding k.finding.paced c.part (omega arith) in
+    let ours : IsOf shared cleared = of_finding k.ready.ours f in
+    let value : value_here cleared.view (length cleared.view.seen) key ≡ found = ap (λ (l : List Entry). (state_at l (length l)).values (key_number key)) c.seen ∙ k.value in record {
+      steps = k.finding.steps ++ c.steps;
+      may = record {
+        look = f.look;
+        ends = record {
+          goes = f.goes None;
+          looked = f.looked;
+          paced = f.paced;
+          first = k.ready.law;
+          on = ap (λ (p : Plan). key_cell p (key_number key)) (ours.plan ∙ sym k.ready.ours.plan);
+          late = f.looked.upto;
+          right = find_right cleared ours k.some value;
+          idle = k.ready.idle;
+          idle_now = ap (λ (z : SeatData). z.holding) f.same ∙ k.ready.idle;
+          full = λ need free e. absurd (never_full found need free e);
+        };
+        looks = f.looks;
+        same = f.same;
+        retired = f.retired;
+        hold = f.hold;
+        walk = c.none;
+        own = ap (λ (x : Claim). x.word) f.own ∙ k.ready.own;
+        value = value;
+      };
+      missed = missed_more k.missed c.steps;
+      stored = more_stored k.finding.steps c.steps k.stored;
     }
 
-pub of_may : {shared : ObjectData} {key : KeyWords} {found : Option (List ℕ)} {before now : SeatData} → IsReady shared before → MayFind key found before now → IsOf shared now
-of_may ready m = of_finding ready m.finding
+module _ {key : KeyWords} {found : Option (List ℕ)} {before now : SeatData} (m : MayEndFind key found before now) where
+  abbrev FindStood : SeatData → Type 0
+  FindStood after = after ≡ stepped (stood_view (length now.view.seen) (Find key) (find_reply found) (cleared_view BACK now.view)) (unnoted BACK now)
 
-pub begins : {shared : ObjectData} {before : SeatData} (key : KeyWords) (cell : ℕ) → IsReady shared before → 0 < shared.plan.buckets → cell ≡ key_cell shared.plan (key_number key)
-    → Begun shared key cell before
-begins key cell ready some is = record { ready = ready; some = some; cell_is = is }
+  pub find_found : (after : SeatData) → FindStood after → IsSeat after → IsFound key found before after
+  find_found after is last = found_now m.may after (ended_back now m.may.ends.goes.sound) is last (missed_caused (missed_more m.missed (clear_step now ∷ [])))
+      (λ none. absurd (let some = more_stored m.steps (clear_step now ∷ []) m.stored in omega arith))
+
+  pub find_ready : (shared : ObjectData) (after : SeatData) → IsReady shared before → FindStood after → IsSeat after → IsReady shared after
+  find_ready shared after ready is law = ready_now shared after ready m.may.ends is law m.may.walk m.may.own (find_hold m.may after (ended_back now m.may.ends.goes.sound) is law)

@@ -1,5 +1,7 @@
 mod Ended
 mod Finding
+mod FirstNode
+mod Found
 mod Fronted
 mod Keyed
 mod Making

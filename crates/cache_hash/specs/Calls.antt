@@ -1,7 +1,9 @@
 -- What the calls on keys promise.
 use Rattle.std.specs.Prelude.{◌≡◌, ◌≢◌, ◌⊎◌, ℕ, ◌+◌, ◌*◌, ◌<◌, ◌≤◌, Bool, true, false, not, is_some, if◌then◌else◌, List, Option, Some, None, length}
 use Rattle.big_atomic.specs.Calls.{Answered, HoldStays, IsFullAnswer, IsQuiet, NodesStay}
-use Rattle.big_atomic.specs.Turns.{exchanges, lost_steps, scan_loads}
+use Rattle.big_atomic.specs.Reads.{ClaimsAreCaused, IsInlineRead}
+use Rattle.big_atomic.specs.Turns.{claim_stores, exchanges, lost_steps, scan_loads}
+use Rattle.cache_hash.specs.Firsts.{MissesFirst}
 use Rattle.cache_hash.specs.declared.answers.Insert.{Insert as InsertAnswer}
 use Rattle.cache_hash.specs.declared.answers.Insert.TheVariants.{Done as InsertDone, Present as InsertPresent, Full as InsertFull}
 use Rattle.cache_hash.specs.declared.answers.Remove.{Remove as RemoveAnswer}
@@ -42,6 +44,11 @@ pub record IsFound (key : KeyWords) (found : Option (List ℕ)) (before after : 
   pub there : value_at after.view answered.stand.place key ≡ found
   pub quiet : IsQuiet answered.steps before after
   pub hold : HoldStays before after
+  -- a claim is stored only where the call's steps before found an odd version, a marked backup, two versions that differ, or inline words that
+  -- name a next link and another key
+  pub caused : ClaimsAreCaused (MissesFirst (key_cell before.view.plan (key_number key)) key) answered.steps
+  -- a find that stores none makes one read of the inline words and nothing else, and stands where it found the backup without a mark
+  pub inline : claim_stores answered.steps ≡ 0 → (words : List ℕ) × IsInlineRead (key_cell before.view.plan (key_number key)) words answered.stand.place answered.steps
 
 -- at this place the call would change its key's pair, and needs so many nodes by the order of the records in the key's bucket
 pub record NeedsNodes (call : Call) (place need : ℕ) (v : View) : Type 0 where

@@ -2,18 +2,20 @@
 ghost use Rattle.std.specs.Prelude.{◌<◌, ◌≡◌};
 ghost use Rattle.big_atomic.specs.Ready.{IsReady};
 ghost use Rattle.cache_hash.specs.Calls.{IsFound, find_reply};
-ghost use Rattle.cache_hash.specs.Finding.{KnowsValue};
+ghost use Rattle.cache_hash.specs.Finding.{HasMissed, KnowsFirst, KnowsValue};
 ghost use Rattle.step_rules.specs.SeatData.{SeatData};
 
 use crate::cells::bucket_cell;
-use big_atomic::{answer_now, claim_node};
+use crate::firsts::{First, read_first};
+use big_atomic::{answer_now, claim_node, stand_now};
 use chain_links::{Walk, walk};
 use hazard_claims::{Claim, clear_walk};
 use seat_history::{Call, KeyWords, Reply, ValWords};
 use step_rules::{Seat, Shared};
 
-/// The value of a key; None where it has none. Each further turn has a change of another caller to the
-/// key's bucket.
+/// The value of a key; None where it has none. The inline words of its bucket answer where they are
+/// the first node's and tell; else it walks under a claim, and each further turn has a change of
+/// another caller to the bucket.
 pub fn find(shared: &Shared, seat: &mut Seat, key: KeyWords) -> Option<ValWords>
     requires ready { IsReady shared.now seat.old }
     requires some { 0 < shared.now.plan.buckets }
@@ -21,6 +23,34 @@ pub fn find(shared: &Shared, seat: &mut Seat, key: KeyWords) -> Option<ValWords>
     ensures found { IsFound key result seat.old seat.new }
 {
     let cell = bucket_cell(shared, key);
+    match read_first(shared, seat, cell, key) {
+        First::Here(val) => {
+            answer_first(shared, seat, key, Some(val));
+            Some(val)
+        }
+        First::Absent => {
+            answer_first(shared, seat, key, None);
+            None
+        }
+        First::Beyond => find_claimed(shared, seat, cell, key),
+    }
+}
+
+// Adds the stand of a find that the inline words answer, at the place where they were read.
+fn answer_first(shared: &Shared, seat: &mut Seat, key: KeyWords, found: Option<ValWords>)
+    requires past { (before : SeatData) × KnowsFirst shared.now key found before seat.old }
+    ensures ends { (before : SeatData) → KnowsFirst shared.now key found before seat.old
+        → IsReady shared.now seat.new × IsFound key found before seat.new }
+{
+    stand_now(shared, seat, Call::Find { key }, reply_of(found));
+}
+
+// Finds by claims what the inline words don't tell.
+fn find_claimed(shared: &Shared, seat: &mut Seat, cell: u32, key: KeyWords) -> Option<ValWords>
+    requires past { (before : SeatData) × HasMissed shared.now key cell before seat.old }
+    ensures ends { (before : SeatData) → HasMissed shared.now key cell before seat.old
+        → IsReady shared.now seat.new × IsFound key result before seat.new }
+{
     claim_node(shared, seat, Claim::Back, cell);
     'turns: loop {
         match walk(shared, seat, cell, key) {

@@ -6,6 +6,7 @@ mod asked;
 mod cells;
 mod changes;
 mod finds;
+mod firsts;
 mod inserts;
 mod removes;
 mod replaces;

@@ -7,6 +7,7 @@ ghost use Rattle.step_rules.specs.SeatData.{IsOf};
 mod scripts;
 mod small_shares;
 mod threads;
+mod watchers;
 
 use crate::{
     Closed, Insert, KeyWords, Plan, Remove, Replace, Seat, Shared, VALUE_WIDTH, ValWords, build,
@@ -130,6 +131,23 @@ fn one_node_is_too_few_beside_a_record(rt: HostRuntime) -> Result<(), Fail> {
     play(&rt, &shared, &mut seat, &rows);
     assert_eq!(rt; get(&rt, &shared, &mut seat, key(2, 0)), None);
     assert_eq!(rt; seat.changes_left(), 9);
+    Ok(())
+}
+
+#[test]
+fn finds_in_each_kind_of_bucket(rt: HostRuntime) -> Result<(), Fail> {
+    let (shared, mut seat) = opened(rt.alloc(), &plan(&rt, 1, 4, 1, 2))?;
+    let (first, second, third) = (key(1, 0), key(2, 0), key(3, 0));
+    assert_eq!(rt; get(&rt, &shared, &mut seat, first), None);
+    let rows = [(first, val(10, 0), Insert::Done)];
+    play(&rt, &shared, &mut seat, &rows);
+    assert_eq!(rt; get(&rt, &shared, &mut seat, first), Some(val(10, 0)));
+    assert_eq!(rt; get(&rt, &shared, &mut seat, second), None);
+    let rows = [(second, val(20, 0), Insert::Done)];
+    play(&rt, &shared, &mut seat, &rows);
+    assert_eq!(rt; get(&rt, &shared, &mut seat, second), Some(val(20, 0)));
+    assert_eq!(rt; get(&rt, &shared, &mut seat, first), Some(val(10, 0)));
+    assert_eq!(rt; get(&rt, &shared, &mut seat, third), None);
     Ok(())
 }
 

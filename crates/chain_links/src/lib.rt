@@ -10,4 +10,5 @@ mod walks;
 
 pub use answers::{Edit, Front, Walk};
 pub use fronts::copy_front;
+pub use pages::{has_key, value_of};
 pub use walks::walk;

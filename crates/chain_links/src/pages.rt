@@ -11,15 +11,15 @@ use node_pool::NodeWords;
 use seat_history::{KeyWords, VALUE_WIDTH, ValWords, WIDTH};
 use step_rules::{END, NODE_WIDTH};
 
-/// Whether the record has the key.
-pub(crate) fn has_key(words: &NodeWords, key: KeyWords) -> bool
+/// Whether the record in a node's words has the key.
+pub fn has_key(words: &NodeWords, key: KeyWords) -> bool
     ensures { Decides result (key_in (record_in words.now) ≡ key_number key) }
 {
     words[0] == key.k0 && words[1] == key.k1
 }
 
-/// The record's value.
-pub(crate) fn value_of(words: &NodeWords) -> ValWords
+/// The value of the record in a node's words.
+pub fn value_of(words: &NodeWords) -> ValWords
     ensures { result ≡ drop 2 (record_in words.now) }
 {
     let mut val = [0; VALUE_WIDTH];

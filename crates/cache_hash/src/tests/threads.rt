@@ -1,10 +1,11 @@
-//! Four seats, each in a thread of its own, that put in the same keys and keys of their own, or change the
-//! same few keys in every way.
+//! Four seats, each in a thread of its own, that put in the same keys and keys of their own, change the
+//! same few keys in every way, or find the keys whose values two of them raise.
 ghost use Rattle.std.specs.Prelude.{◌≡◌, ◌<◌, true, All, IfOk, length};
 ghost use Rattle.big_atomic.specs.Ready.{IsReady};
 ghost use Rattle.big_atomic.specs.Seats.{IsUnused};
 ghost use Rattle.step_rules.specs.SeatData.{IsOf};
 
+use super::watchers::{RAISES, raise, watch};
 use super::{close, exchange, get, key, opened, plan, put, take_out, val};
 use crate::{
     Counts, Insert, KeyWords, Plan, Remove, Replace, Seat, Shared, ValWords, join_all, split_all,
@@ -25,12 +26,23 @@ const FEW: u64 = 8;
 
 const TURNS: u64 = 50_000;
 
+/// What the seats do.
+#[derive(Clone, Copy, Drop)]
+enum Work {
+    /// They put pairs in.
+    Fill,
+    /// They change a few keys in every way.
+    Churn,
+    /// Two raise the values of their keys, and the others find them.
+    Watch,
+}
+
 /// A seat, how many pairs it put in, less those that it took out, and a sum of values.
 #[derive(Drop)]
-struct Worked {
-    seat: Seat,
-    pairs: u64,
-    sum: u64,
+pub(super) struct Worked {
+    pub(super) seat: Seat,
+    pub(super) pairs: u64,
+    pub(super) sum: u64,
 }
 
 // One more value is seen.
@@ -123,26 +135,32 @@ fn run_all<R: Threads + Abort + Sync>(
     rt: &R,
     shared: &Shared,
     seats: Vec<Seat>,
-    churns: bool,
+    work: Work,
 ) -> Result<Vec<Worked>, AllocError>
     requires unused { All (IsUnused shared.now) seats.items }
     ensures ours { IfOk result (λ all. All (λ (worked : Worked). IsOf shared.now worked.seat) all.items) }
 {
-    let work = |seat: Seat| -> Worked
+    let work_one = |seat: Seat| -> Worked
         requires { IsUnused shared.now seat }
         ensures { IsOf shared.entry.now result.seat }
-    { work_on(rt, shared, seat, churns) };
-    thread::map_vec(rt, seats, &work)
+    { work_on(rt, shared, seat, work) };
+    thread::map_vec(rt, seats, &work_one)
 }
 
-fn work_on(rt: &impl Abort, shared: &Shared, seat: Seat, churns: bool) -> Worked
+fn work_on(rt: &impl Abort, shared: &Shared, seat: Seat, work: Work) -> Worked
     requires ready { IsReady shared.now seat }
     ensures ours { IsOf shared.now result.seat }
 {
-    if churns {
-        return churn(rt, shared, seat);
+    match work {
+        Work::Fill => put_all(rt, shared, seat),
+        Work::Churn => churn(rt, shared, seat),
+        Work::Watch => {
+            if seat.number() % 2 == 0 {
+                return raise(rt, shared, seat);
+            }
+            watch(rt, shared, seat)
+        }
     }
-    put_all(rt, shared, seat)
 }
 
 // Joins all seats, and adds up what they have.
@@ -179,14 +197,14 @@ fn work_together<R: Threads + Abort + Sync>(
     alloc: Global,
     shared: &Shared,
     first: Seat,
-    churns: bool,
+    work: Work,
 ) -> Result<Worked, Fail>
     requires ready { IsReady shared.now first }
     ensures ours { IfOk result (λ worked. IsOf shared.now worked.seat) }
 {
     assert!(rt; first.fresh());
     let seats = split_all(alloc, shared, first)?;
-    let all = run_all(rt, shared, seats, churns)?;
+    let all = run_all(rt, shared, seats, work)?;
     Ok(joined(rt, alloc, shared, all)?)
 }
 
@@ -197,7 +215,7 @@ fn put_together<R: Threads + Abort + Sync>(
     buckets: u32,
 ) -> Result<(), Fail> {
     let (shared, first) = opened(alloc, &plan(rt, SEATS, 200, buckets, 1_000))?;
-    let Worked { seat, pairs, sum } = work_together(rt, alloc, &shared, first, false)?;
+    let Worked { seat, pairs, sum } = work_together(rt, alloc, &shared, first, Work::Fill)?;
     let closed = close(rt, shared, seat);
     let list = closed.pairs(alloc)?;
     // Each pair was put in once, and the values are those that each thread saw.
@@ -236,7 +254,7 @@ fn four_threads_change_eight_keys(rt: HostRuntime) -> Result<(), Fail> {
             ..few
         },
     )?;
-    let Worked { seat, pairs, sum } = work_together(&rt, rt.alloc(), &shared, first, true)?;
+    let Worked { seat, pairs, sum } = work_together(&rt, rt.alloc(), &shared, first, Work::Churn)?;
     let mut seat = seat;
     scan(&shared, &mut seat);
     let closed = close(&rt, shared, seat);
@@ -255,5 +273,18 @@ fn four_threads_change_eight_keys(rt: HostRuntime) -> Result<(), Fail> {
     } = closed.counts();
     assert_eq!(rt; retired, 0);
     assert_eq!(rt; u64::from(free) + u64::from(live), 26);
+    Ok(())
+}
+
+#[test]
+fn two_threads_find_what_two_raise(rt: HostRuntime) -> Result<(), Fail> {
+    let (shared, first) = opened(rt.alloc(), &plan(&rt, SEATS, 40, 1, RAISES + 1))?;
+    let Worked { seat, .. } = work_together(&rt, rt.alloc(), &shared, first, Work::Watch)?;
+    let closed = close(&rt, shared, seat);
+    let list = closed.pairs(rt.alloc())?;
+    assert_eq!(rt; list.as_slice().len(), 2);
+    for (_, val) in list.as_slice() {
+        assert_eq!(rt; val[0], RAISES);
+    }
     Ok(())
 }

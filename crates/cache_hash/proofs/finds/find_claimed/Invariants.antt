@@ -1,6 +1,6 @@
 use Rattle.std.proofs.Common.{◌*◌, ◌-◌, length}
 use Rattle.cache_hash.proofs.Finding.{Claimed}
-use Rattle.cache_hash.proofs.finds.find.Given as goal
+use Rattle.cache_hash.proofs.finds.find_claimed.Given as goal
 
 -- the cell's node is claimed, and no more was made than looks and loads
 abbrev pub invariant-turns : goal.invariant-turns
