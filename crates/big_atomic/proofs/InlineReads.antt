@@ -34,7 +34,8 @@ use Rattle.step_rules.specs.declared.view.View.{View}
 
 -- CLAIM STORES
 -- a store of a claim behind steps that store none
-store_behind : (a b front back : List Counted) (step : Counted) → claim_stores a ≡ 0 → a ++ b ≡ front ++ step ∷ back → is_claim_store step.kind ≡ true → (rest : List Counted) × (front ≡ a ++ rest)
+store_behind : (a b front back : List Counted) (step : Counted) → claim_stores a ≡ 0 → a ++ b ≡ front ++ step ∷ back → is_claim_store step.kind ≡ true
+    → (rest : List Counted) × (front ≡ a ++ rest)
 store_behind [] b front back step none e stores = (front, refl)
 store_behind (s ∷ a) b [] back step none e stores =
     let is : s ≡ step = cc in
@@ -51,7 +52,8 @@ store_behind (s ∷ a) b (f ∷ front) back step none e stores =
     fewer false none = none
 
 -- once steps that store no claim show a cause, which further steps don't take away, all that follow may store one
-pub caused_after : (cause : List Counted → Type 0) (a b : List Counted) → ((more : List Counted) → cause a → cause (a ++ more)) → claim_stores a ≡ 0 → cause a → ClaimsAreCaused cause (a ++ b)
+pub caused_after : (cause : List Counted → Type 0) (a b : List Counted) → ((more : List Counted) → cause a → cause (a ++ more)) → claim_stores a ≡ 0 → cause a
+    → ClaimsAreCaused cause (a ++ b)
 caused_after cause a b keeps none shown = record {
   each = λ front back step e stores. let h = store_behind a b front back step none e stores in subst cause (sym h.1) (keeps h.0 shown);
 }
@@ -64,10 +66,6 @@ caused_none cause a none = record {
       let rest = filter (λ (c : Counted). is_claim_store c.kind) back in
       omega (arith, ap (λ (x : Bool). length (cond x (step ∷ rest) rest)) stores));
 }
-
--- a cause may be told in a wider sense
-pub caused_wider : {cause wider : List Counted → Type 0} {steps : List Counted} → ((front : List Counted) → cause front → wider front) → ClaimsAreCaused cause steps → ClaimsAreCaused wider steps
-caused_wider widen c = record { each = λ front back step e stores. widen front (c.each front back step e stores) }
 
 -- further steps leave a read failed
 pub failed_more : {k : ℕ} (a more : List Counted) → ReadFailed k a → ReadFailed k (a ++ more)
