@@ -15,6 +15,7 @@ use Rattle.flow_tally.specs.declared.status.Status.{Status}
 use Rattle.flow_tally.specs.declared.status.Status.TheVariants.{Done, BadDatagram, TooManyFlows, InputTooLarge, NoMemory, PlanTooLarge}
 use Rattle.step_rules.specs.Closing.{ClosedData}
 use Rattle.tally_core.specs.Adding.{IsTallied, plan_of_tally}
+use Rattle.tally_core.specs.declared.draws.Draw.{Draw}
 
 -- the nodes that a table for the tally has: a share of 2F + 4W + 1 for each of W workers, and one for each bucket
 abbrev pub nodes_of : Tally → ℕ
@@ -55,10 +56,10 @@ pub record IsTally (contents ds : List (List ℕ)) (flows : Flows) : Type 0 wher
 abbrev pub totals_of : List (List ℕ) → Totals
 totals_of ds = record { records = length (all_records ds); datagrams = length ds }
 
--- the keys and values of all records were added up to these flows on the closed object
+-- the keys and values of all records were added up to these flows on the closed object, by workers that drew their batches
 abbrev pub IsAddedUp : Tally → List (List ℕ) → Flows → ClosedData → Type 0
 IsAddedUp tally ds flows closed =
-    let pairs = pairs_of (all_records ds) in IsTallied (plan_of_tally pairs tally.workers tally.flows tally.buckets) pairs flows closed
+    let pairs = pairs_of (all_records ds) in (draws : List Draw) × IsTallied (plan_of_tally pairs tally.workers tally.flows tally.buckets) pairs flows closed draws
 
 -- what the answer of a tally says of its contents and of the object on which their records were added up, or why there is none
 abbrev pub GivesText : Tally → List (List ℕ) → List (List ℕ) → Result Answer Status → Type 0

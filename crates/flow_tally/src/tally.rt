@@ -81,7 +81,7 @@ fn answer_of<R: Threads + Sync, G: Gate>(
     requires past { (contents : List (List ℕ)) × (ds : List (List ℕ)) × IsGatheredOf contents ds gathered.now }
     ensures { (contents ds : List (List ℕ)) → IsGatheredOf contents ds gathered.now → GivesText (tally_in words.now) contents ds result }
 {
-    let Tallied { flows, closed } = match add_up(
+    let Tallied { flows, closed, .. } = match add_up(
         rt,
         alloc,
         &gathered.pairs,

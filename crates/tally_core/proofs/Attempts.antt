@@ -118,7 +118,8 @@ module _ {k : ℕ} {asked : Call} {told : Reply} {before after : SeatData} (a : 
   added_one {shared} {added} pair was ready hold values one answered adds range =
       let reply : is_adding a.stand ≡ true = ap is_adding_reply a.stood.reply ∙ one in
       let tally : IsTallyCall a.stand = record { values = subst HasValues (sym a.stood.call) values; adds = λ _. (pair, adds_it pair adds) } in
-      let early : is_late a.stand ≡ false = ap (λ b. is_change_call a.stand.call && not b && not (is_full a.stand.reply)) reply ∙ none_both (is_change_call a.stand.call) (not (is_full a.stand.reply)) in
+      let early : is_late a.stand ≡ false = ap (λ b. is_change_call a.stand.call && not b && not (is_full a.stand.reply)) reply
+      ∙ none_both (is_change_call a.stand.call) (not (is_full a.stand.reply)) in
       on (pair ∷ []) false was ready hold (subst (λ b. AllZip Adds (pair ∷ []) (cond b (a.stand ∷ []) [])) (sym reply) (adds_it pair adds, tt)) (range, tt) tally
       (one_spent a.stand.changes before.view.changes after.view.changes a.stood.changes) answered (λ late. absurd (false≢true (sym early ∙ late)))
 

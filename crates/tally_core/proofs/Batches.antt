@@ -1,5 +1,6 @@
 -- The batches of pairs: together they are all pairs, and have all places.
-use Rattle.std.proofs.Common.{◌≡◌, ◌∙◌, ℕ, ◌+◌, ◌*◌, ◌-◌, ◌<◌, ◌≤◌, suc, zero, List, [], ◌∷◌, ◌++◌, get_or, length, take, drop, refl, sym, ap, subst, arith}
+use Rattle.std.proofs.Common.{◌≡◌, ◌∙◌, ℕ, ◌+◌, ◌*◌, ◌-◌, ◌<◌, ◌≤◌, suc, zero, List}
+use Rattle.std.proofs.Common.{[], ◌∷◌, ◌++◌, get_or, length, take, drop, refl, sym, ap, subst, arith}
 use Rattle.std.specs.List.Sorted.{IsPermutation}
 use Rattle.std.specs.List.{between, cons_option, range_with_len}
 use Rattle.std.specs.Prelude.{Option, Some, None, min, slice_get}
@@ -55,7 +56,8 @@ first_places count (suc n) within =
     let at : 256 * n ≡ 0 + 256 * n = omega arith in
     let last : 256 * n + (min (256 * n + 256) count - 256 * n) ≡ min (256 * suc n) count = omega arith in
     flat_map-append (batch_places count) (all_below n) (n ∷ [])
-    ∙ ((λ i. (first_places count n (omega arith) ∙ ap (range_with_len 0) front) i ++ (append-nil (batch_places count n) ∙ ap (λ k. range_with_len k (min (256 * n + 256) count - 256 * n)) at) i)
+    ∙ ((λ i. (first_places count n (omega arith) ∙ ap (range_with_len 0) front) i
+    ++ (append-nil (batch_places count n) ∙ ap (λ k. range_with_len k (min (256 * n + 256) count - 256 * n)) at) i)
     ∙ (range_add 0 (256 * n) (min (256 * n + 256) count - 256 * n) ∙ ap (range_with_len 0) last))
 
 all_places : (count : ℕ) → drawn_places count (all_below (batches_of count)) ≡ range_with_len 0 count

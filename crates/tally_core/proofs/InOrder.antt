@@ -22,13 +22,15 @@ zip_length R [] (y ∷ b) zip = absurd zip
 zip_length R (x ∷ a) [] zip = absurd zip
 zip_length R (x ∷ a) (y ∷ b) zip = let rest = zip_length R a b zip.1 in omega arith
 
-first_in_order : (n : ℕ) (lists : ℕ → Flows) (stands : List Stand) → ((w : ℕ) → w < n → AllZip Adds (lists w) (adding_in (stands_by w stands))) → AllZip Adds (joined n lists) (adding_by n stands)
+first_in_order : (n : ℕ) (lists : ℕ → Flows) (stands : List Stand) → ((w : ℕ) → w < n → AllZip Adds (lists w) (adding_in (stands_by w stands)))
+    → AllZip Adds (joined n lists) (adding_by n stands)
 first_in_order zero lists stands each = tt
 first_in_order (suc n) lists stands each = zip_append Adds (joined n lists) (lists n) (adding_by n stands) (adding_in (stands_by n stands))
     (first_in_order n lists stands (λ w l. each w (omega arith))) (each n (omega arith))
 
 -- where each worker's stands add the pairs of its batches, all workers' add those of all
-pub in_order : (workers : ℕ) (pairs : Flows) (drawn : ℕ → List ℕ) (stands : List Stand) → ((w : ℕ) → w < workers → AllZip Adds (drawn_pairs pairs (drawn w)) (adding_in (stands_by w stands)))
+pub in_order : (workers : ℕ) (pairs : Flows) (drawn : ℕ → List ℕ) (stands : List Stand)
+    → ((w : ℕ) → w < workers → AllZip Adds (drawn_pairs pairs (drawn w)) (adding_in (stands_by w stands)))
     → AllZip Adds (drawn_pairs pairs (joined workers drawn)) (adding_by workers stands)
 in_order workers pairs drawn stands each = subst (λ (l : Flows). AllZip Adds l (adding_by workers stands)) (sym (joined_flat (batch_of pairs) workers drawn))
     (first_in_order workers (λ w. drawn_pairs pairs (drawn w)) stands each)
@@ -48,7 +50,8 @@ counted n pairs batches stands once below zip =
     split_count is_adding n stands below ∙ (sym (count_to n stands) ∙ (sym (zip_length Adds (drawn_pairs pairs batches) (adding_by n stands) zip) ∙ long))
 
 -- what holds of each worker's stands holds of all
-pub all_stands_are : (P : Stand → Type 0) (n : ℕ) (stands : List Stand) → All (λ (s : Stand). s.by < n) stands → ((w : ℕ) → w < n → AllByRecursion P (stands_by w stands)) → All P stands
+pub all_stands_are : (P : Stand → Type 0) (n : ℕ) (stands : List Stand) → All (λ (s : Stand). s.by < n) stands
+    → ((w : ℕ) → w < n → AllByRecursion P (stands_by w stands)) → All P stands
 all_stands_are P n [] below each = λ i d l. absurd (omega (arith, l))
 all_stands_are P n (s ∷ stands) below each =
     let there = All-head (λ (t : Stand). t.by < n) s stands below in

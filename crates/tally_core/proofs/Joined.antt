@@ -1,5 +1,6 @@
 -- Lists of workers joined by rising number.
-use Rattle.std.proofs.Common.{◌≡◌, ◌∙◌, ℕ, ◌+◌, ◌<◌, ◌≤◌, suc, zero, List, [], ◌∷◌, ◌++◌, cond, eq-eqb, ne_eqb, get_or, length, take, refl, sym, ap, subst, arith, ⊎_elim}
+use Rattle.std.proofs.Common.{◌≡◌, ◌∙◌, ℕ, ◌+◌, ◌<◌, ◌≤◌, suc, zero, List, [], ◌∷◌, ◌++◌}
+use Rattle.std.proofs.Common.{cond, eq-eqb, ne_eqb, get_or, length, take, refl, sym, ap, subst, arith, ⊎_elim}
 use Rattle.std.specs.List.Sorted.{IsPermutation}
 use Rattle.std.specs.Prelude.{flat_map}
 use Rattle.std.proofs.lemmas.Bool.{cases_eq}
@@ -22,7 +23,8 @@ joined_flat f zero lists = refl
 joined_flat f (suc n) lists = flat_map-append f (joined n lists) (lists n) ∙ ap (λ l. l ++ flat_map f (lists n)) (joined_flat f n lists)
 
 -- items in a row, each with the list of its place
-pub flat_joined : {A X : Type 0} (f : A → List X) (items : List A) (lists : ℕ → List X) (n : ℕ) → n ≤ length items → ((i : ℕ) (d : A) → i < length items → f (get_or items i d) ≡ lists i) → A
+pub flat_joined : {A X : Type 0} (f : A → List X) (items : List A) (lists : ℕ → List X) (n : ℕ) → n ≤ length items
+    → ((i : ℕ) (d : A) → i < length items → f (get_or items i d) ≡ lists i) → A
     → flat_map f (take n items) ≡ joined n lists
 flat_joined f items lists zero within each d = refl
 flat_joined f items lists (suc n) within each d =

@@ -1,5 +1,6 @@
 -- A worker that was answered Full has met more keys than the plan is made for.
-use Rattle.std.proofs.Common.{◌≡◌, ◌∙◌, ℕ, ◌+◌, ◌-◌, ◌*◌, ◌<◌, ◌≤◌, ◌⊎◌, inl, inr, suc, zero, Bool, true, false, cond, eqb, List, [], ◌∷◌, ◌++◌, Option}
+use Rattle.std.proofs.Common.{◌≡◌, ◌∙◌, ℕ, ◌+◌, ◌-◌, ◌*◌, ◌<◌, ◌≤◌, ◌⊎◌, inl, inr}
+use Rattle.std.proofs.Common.{suc, zero, Bool, true, false, cond, eqb, List, [], ◌∷◌, ◌++◌, Option}
 use Rattle.std.proofs.Common.{Some, None, IsSome, length, take, drop, is_some, refl, sym, ap, subst, arith}
 use Rattle.std.specs.BTreeMap.{is_at}
 use Rattle.std.specs.Cmp.{eq_by_cmp_equiv}
@@ -173,7 +174,8 @@ last_call : (before : List Stand) (s : Stand) → AllByRecursion IsTallyCall (be
 last_call [] s all = all.0
 last_call (first ∷ before) s all = last_call before s all.1
 
-module _ (pairs : Flows) (workers flows : ℕ) (drawn : ℕ → List ℕ) (full : ℕ → Bool) (closed : ClosedData) (tallied : HasTallied workers pairs drawn full closed) (w : ℕ) (below : w < workers) where
+module _ (pairs : Flows) (workers flows : ℕ) (drawn : ℕ → List ℕ) (full : ℕ → Bool) (closed : ClosedData) (tallied : HasTallied workers pairs drawn full closed)
+    (w : ℕ) (below : w < workers) where
   within : w < closed.plan.seats
   within = subst (λ n. w < n) (sym tallied.workers_are) below
 

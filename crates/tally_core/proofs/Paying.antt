@@ -1,5 +1,6 @@
 -- Tries that came late, each paid for by another caller's change.
-use Rattle.std.proofs.Common.{◌≡◌, ◌≢◌, ◌∙◌, ℕ, ◌+◌, ◌-◌, ◌<◌, ◌≤◌, suc, Bool, true, false, cond, eqb, not, ◌&&◌, eq-eqb, List, [], ◌∷◌, ◌++◌, Option}
+use Rattle.std.proofs.Common.{◌≡◌, ◌≢◌, ◌∙◌, ℕ, ◌+◌, ◌-◌, ◌<◌, ◌≤◌, suc, Bool, true}
+use Rattle.std.proofs.Common.{false, cond, eqb, not, ◌&&◌, eq-eqb, List, [], ◌∷◌, ◌++◌, Option}
 use Rattle.std.specs.Prelude.{filter, map}
 use Rattle.std.specs.Option.{option_map_or}
 use Rattle.std.proofs.Common.{append-nil, length, length-append, take, drop, Some, None, refl, sym, ap, subst, arith, ⊎_elim}

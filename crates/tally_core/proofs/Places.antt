@@ -1,5 +1,6 @@
 -- Places at the batches: split off one seat, given to workers, and taken into one again.
-use Rattle.std.proofs.Common.{◌≡◌, ◌∙◌, ℕ, ◌+◌, ◌-◌, ◌<◌, ◌≤◌, All, Bool, true, false, ◌||◌, List, [], ◌∷◌, ◌++◌, append-nil, append_assoc, length, length-append, refl, sym, ap, subst, arith, vec_capacity}
+use Rattle.std.proofs.Common.{◌≡◌, ◌∙◌, ℕ, ◌+◌, ◌-◌, ◌<◌, ◌≤◌, All, Bool, true, false, ◌||◌, List}
+use Rattle.std.proofs.Common.{[], ◌∷◌, ◌++◌, append-nil, append_assoc, length, length-append, refl, sym, ap, subst, arith, vec_capacity}
 use Rattle.std.proofs.lemmas.Grind.{flat_map-append}
 use Rattle.std.proofs.lemmas.List.{length-drop, length-take}
 use Rattle.std.proofs.lemmas.List.Elements.{All-head, All-push, All-tail}
@@ -118,7 +119,8 @@ module _ {batches : BatchesData} {all : BatchSeatData} {seats : List SeatData} {
     pub next_tells : TellsDrawn batches next
     next_tells = All-head (TellsDrawn batches) next rest each_left
 
-    pub next_joined : {new : BatchSeatData} {more : List SeatData} → new ≡ record all { view = joined_view all.view next.told.batches.view } → IsBatchSeat new → more ≡ seats ++ next.seat ∷ []
+    pub next_joined : {new : BatchSeatData} {more : List SeatData} → new ≡ record all { view = joined_view all.view next.told.batches.view } → IsBatchSeat new
+        → more ≡ seats ++ next.seat ∷ []
         → HasJoined batches new more rest drawers
     next_joined {new} {more} joined law pushed =
         let numbers = so_far.numbers in
@@ -162,8 +164,8 @@ module _ {batches : BatchesData} {all : BatchSeatData} {seats : List SeatData} {
         (so_far.law.lawful.whole (omega (arith, numbers, ap length taken_all, long, ap (λ (p : BatchPlan). p.seats) so_far.ours.plan)) (so_far.ended ∙ (ap any_ended taken_all ∙ some)))
 
 -- a place that is the last of those left goes to a worker
-pub has_no_draw : {batches : BatchesData} (one : Drawer) → IsUndrawn batches one.told.batches → one.told.drawn.items ≡ [] → one.told.full ≡ false → batches.plan.count ≤ vec_capacity one.told.drawn
-    → HasNoDraw batches one
+pub has_no_draw : {batches : BatchesData} (one : Drawer) → IsUndrawn batches one.told.batches → one.told.drawn.items ≡ [] → one.told.full ≡ false
+    → batches.plan.count ≤ vec_capacity one.told.drawn → HasNoDraw batches one
 has_no_draw one undrawn none not_full room = record {
   tells = record { seat = undrawn.0; drawn = none ∙ sym undrawn.1 };
   none = none;

@@ -5,13 +5,11 @@ ghost use Rattle.tally_core.specs.Drawing.{AreBatchesOf, HasBegun, HasDrawn, Has
 ghost use Rattle.tally_core.specs.Draws.{batch_of, batches_of};
 
 use crate::adding::add_pairs;
+use crate::draws::BATCH;
 use crate::worker::Drawer;
 use big_atomic::Shared;
 use flow_fold::{Key, Value};
 use worker_gate::{Batches, Gate};
-
-/// How many pairs a batch has; the last one may have fewer.
-const BATCH: usize = 256;
 
 /// Draws batches and adds their pairs, until none is left or a call is answered Full. It passes the gate
 /// before each draw, the last one included. No memory is taken: the draws have their room.

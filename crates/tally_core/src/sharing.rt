@@ -7,7 +7,7 @@ ghost use Rattle.tally_core.specs.Workers.{seats_of};
 ghost use Rattle.worker_gate.specs.Numbers.{EachOnce};
 ghost use Rattle.worker_gate.specs.Seats.{BatchesData, IsBatchOf, IsBatchSeat};
 
-use crate::draws::{Draw, DrawList};
+use crate::draws::{BATCH, Draw, DrawList};
 use crate::worker::{Drawer, Part, Worker};
 use big_atomic::{NoMemory, Seat};
 use std::alloc::{AllocError, Global};
@@ -27,7 +27,7 @@ pub(crate) fn share_batches(
     ensures no_draw { IfOk result (λ made. All (HasNoDraw made.0) made.1.items) }
 {
     let workers = seats.len() as u32;
-    let count = ((pairs + 255) / 256) as u32;
+    let count = ((pairs + (BATCH - 1)) / BATCH) as u32;
     let (batches, seat) = Batches::new(alloc, count, workers)?;
     let places = split_places(alloc, &batches, seat, workers)?;
     let drawers = seat_drawers(alloc, seats, places, count)?;

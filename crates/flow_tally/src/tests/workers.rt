@@ -66,6 +66,13 @@ fn one_flow_of_many_workers(rt: HostRuntime) -> Result<(), Fail> {
         "tally --workers 64 --flows 1 a",
         &[Part::Records(30)],
         report,
+    )?;
+    done(
+        &rt,
+        "tally --workers 64 a",
+        &[Part::One],
+        "10.0.0.1 10.0.0.2 1234 80 6 0 1 12 3400 1000 2000\n\
+         flows 1 packets 12 octets 3400 records 1 datagrams 1\n",
     )
 }
 
@@ -86,5 +93,8 @@ fn two_workers_meet(rt: HostRuntime) -> Result<(), Fail> {
                   flows 1 packets 12 octets 3400 records 1 datagrams 1\n";
     assert_eq!(rt; out.as_slice(), report.as_bytes());
     assert!(rt; gate.met());
+    let report = "10.0.0.1 10.0.0.2 1234 80 6 0 1 12 3400 1000 2000\n\
+                  flows 1 packets 12 octets 3400 records 1 datagrams 1\n";
+    assert_eq!(rt; out.as_slice(), report.as_bytes());
     Ok(())
 }

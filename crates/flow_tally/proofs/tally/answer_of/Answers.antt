@@ -15,11 +15,11 @@ returns-in-Ok-print g c = λ contents ds is.
     let words = c.args.words.now in
     let (made, few) = c.in-Ok.ensures.tallied in
     let pairs : c.deref.result.now ≡ pairs_of (all_records ds) = c.deref.ensures.value ∙ is.all.pairs in
-    let added = subst (λ (z : Flows). IsTallied (plan_of_tally z words.workers words.flows words.buckets) z flows c.in-Ok.tallied.closed) pairs made in
+    let added = subst (λ (z : Flows). IsTallied (plan_of_tally z words.workers words.flows words.buckets) z flows c.in-Ok.tallied.closed c.in-Ok.tallied.draws) pairs made in
     let records : c.len.result ≡ length (all_records ds) = omega (arith, c.len.ensures, ap length is.all.pairs, length-pairs_of (all_records ds)) in
     let text : c.in-Ok-print.text.items ≡ printed (source_in words.source) flows (totals_of ds) =
     c.in-Ok-print.ensures ∙ ap₂ (λ (z : Flows) (t : Totals). printed (source_in words.source) z t) c.as_slice.ensures (λ i. record { records = records i; datagrams = is.all.datagrams i }) in
-    (flows, record { good = is.good; file = is.file; rising = added.rising; fold = added.fold }, few, added, text)
+    (flows, record { good = is.good; file = is.file; rising = added.rising; fold = added.fold }, few, (c.in-Ok.tallied.draws, added), text)
 
 pub tally-requires-clause-few : goal.tally-requires-clause-few
 tally-requires-clause-few g c _ _ =

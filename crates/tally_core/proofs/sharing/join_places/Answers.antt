@@ -9,7 +9,8 @@ pub loop-drawer-init : goal.loop-drawer-init
 loop-drawer-init c =
     subst (λ it. HasJoined c.args.batches.now c.in-Some.first.told.batches (seats_of c.push.new.self.items) (into_iter_items it) c.args.drawers.items)
     (sym c.into_iter-drawer-iterator.ensures.into_iter_gives)
-    (first_joined c.in-Some.first (sym c.into_iter-drawers.ensures.rest ∙ c.in-Some.ensures.items) c.requires.each (first_seat c.in_ok-workers.workers.items (record { seat = c.in-Some.first.seat; told = tt }) c.in_ok-push.ensures.items c.in_ok-workers.ensures.items))
+    (first_joined c.in-Some.first (sym c.into_iter-drawers.ensures.rest ∙ c.in-Some.ensures.items) c.requires.each
+    (first_seat c.in_ok-workers.workers.items (record { seat = c.in-Some.first.seat; told = tt }) c.in_ok-push.ensures.items c.in_ok-workers.ensures.items))
 
 pub join-requires-clause-theirs : goal.join-requires-clause-theirs
 join-requires-clause-theirs c = (next_tells c.loop-drawer.invariant c.in-Some-drawer.drawer (into_iter_items c.next-in-loop-drawer.new.self) c.in-Some-drawer.ensures.steps.0).seat.ours
