@@ -1,5 +1,5 @@
 -- What a call that gives its register a record knows from stage to stage, and how it is answered where it changes nothing.
-use Rattle.std.proofs.Common.{◌≡◌, ◌∙◌, ℕ, ◌+◌, ◌*◌, ◌/◌, ◌<◌, ◌≤◌, Bool, true, false, not, ◌&&◌, cond, List, [], ◌∷◌, ◌++◌, None, Some}
+use Rattle.std.proofs.Common.{◌≡◌, ◌∙◌, ℕ, ◌+◌, ◌*◌, ◌/◌, ◌<◌, ◌≤◌, Bool, true, false, not, ◌&&◌, cond, List, [], ◌∷◌, ◌++◌, Option, None, Some}
 use Rattle.std.proofs.Common.{length, take, refl, sym, ap, subst, arith, inl, inr, ⊎_elim}
 use Rattle.std.proofs.lemmas.Bool.{and_parts, and_right}
 use Rattle.big_atomic.proofs.Answered.{EndsAs, MayEnd, clear_step, ended_as, right_at}
@@ -93,6 +93,10 @@ swap_never reg old new same c = ap (λ (b : Bool). is_same (c.registers reg) old
 pub costs_none : {reg : ℕ} {new : List ℕ} {done : Reply} {call : Call} → Gives reg new done call → CostsNone call
 costs_none g rs = (ap (λ (e : Edit). cost_of (length rs) e) (g.edits rs), ap (λ (e : Edit). gain_of (length rs) e) (g.edits rs))
 
+-- looks leave a seat idle
+pub seen_idle : {reg word claims : ℕ} {before now : SeatData} → before.holding ≡ [] → HasSeen BACK reg word claims before now → now.holding ≡ []
+seen_idle idle s = ap (λ (z : SeatData). z.holding) s.stays.same ∙ idle
+
 module _ {shared : ObjectData} {reg : ℕ} {new : List ℕ} {done : Reply} {call : Call} where
   module _ {b : Begun shared reg new done call} where
     -- A CALL BEGAN WITH LOOKS
@@ -110,12 +114,15 @@ module _ {shared : ObjectData} {reg : ℕ} {new : List ℕ} {done : Reply} {call
         scans = inl s.looks.none_scanned;
         walk = ap (λ (y : Claim). y.word) (s.stays.others WALK (λ e. absurd (omega arith))) ∙ b.began.ready.walk;
         own = ap (λ (y : Claim). y.word) (s.stays.others OWN (λ e. absurd (omega arith))) ∙ b.began.ready.own;
-        idle = ap (λ (z : SeatData). z.holding) s.stays.same ∙ b.began.ready.idle;
         law = law;
         never = λ _. s.looks.none_exchanged;
         spent = spent;
       };
-      turn = inl (record { looks = s.looks; free = ap (λ (z : SeatData). z.free) s.stays.same; retired = s.stays.retired });
+      turn = inl (record {
+        looks = s.looks;
+        nodes = omega (arith, ap (λ (z : SeatData). length z.free) s.stays.same, ap (length {A = ℕ}) (seen_idle b.began.ready.idle s));
+        retired = s.stays.retired;
+      });
     }
 
     pub there_now : {lost most : ℕ} {now : SeatData} → Past b lost most now → reg < now.view.plan.registers
@@ -132,7 +139,6 @@ module _ {shared : ObjectData} {reg : ℕ} {new : List ℕ} {done : Reply} {call
       scans = p.scans;
       walk = p.walk;
       own = p.own;
-      idle = p.idle;
       law = p.law;
       never = p.never;
       spent = λ once. costs_within (p.spent once) low (omega arith) few;
@@ -170,13 +176,18 @@ module _ {shared : ObjectData} {reg : ℕ} {new : List ℕ} {done : Reply} {call
             ⊎_elim (λ e. inl (omega (arith, scan_loads-append p.steps loads))) (λ e. let all = e.0 in inr (omega (arith, scan_loads-append p.steps loads), e.1)) p.scans;
         walk = ap (λ (z : View). (claim_of WALK z).word) read_view ∙ p.walk;
         own = ap (λ (z : View). (claim_of OWN z).word) read_view ∙ p.own;
-        idle = ap (λ (z : SeatData). z.holding) r.read.same ∙ p.idle;
         law = law;
         never = λ never. tried ∙ p.never never;
         spent = λ once.
             let still = loads_still (word / 2) 0 (length mid.view.seen) r.words in
             costs_then loads (p.spent once) (still_lost loads still) (still_exchanges loads still) (omega (arith, wide, loads_length (word / 2) 0 (length mid.view.seen) r.words));
       }
+
+      pub read_idle : now.holding ≡ []
+      read_idle = ap (λ (z : SeatData). z.holding) r.read.same ∙ h.idle
+
+      pub held_same : length now.free + length now.holding ≡ length mid.free + length mid.holding
+      held_same = ap (λ (z : SeatData). length z.free + length z.holding) r.read.same
 
       abbrev pub read_at : AtTurn b 0 (WIDTH + 5) now
       read_at = record {
@@ -187,10 +198,10 @@ module _ {shared : ObjectData} {reg : ℕ} {new : List ℕ} {done : Reply} {call
                 none_exchanged = still_exchanges loads (loads_still (word / 2) 0 (length mid.view.seen) r.words);
                 none_scanned = loads_unscanned (word / 2) 0 (length mid.view.seen) r.words;
               });
-              free = ap (λ (z : SeatData). z.free) r.read.same ∙ o.free;
+              nodes = held_same ∙ o.nodes;
               retired = ap (λ (z : View). z.retired) read_view ∙ o.retired;
             }))
-            (λ t. let some = t.0 in let free = t.1 in inr (omega (arith, tried), omega (arith, ap (λ (z : SeatData). length z.free) r.read.same)))
+            (λ t. let some = t.0 in let there = t.1 in inr (omega (arith, tried), omega (arith, held_same)))
             h.at.turn;
       }
 
@@ -202,9 +213,10 @@ module _ {shared : ObjectData} {reg : ℕ} {new : List ℕ} {done : Reply} {call
       read_there = ap (λ (z : View). register_at z (length z.seen) reg) read_view ∙ (ap (λ (n : ℕ). register_at mid.view n reg) (sym h.claim.now_at)
           ∙ record_read BACK reg (word / 2) rec mid now (inl refl) (there_now p) p.law.sound h.claim.stands h.claim.cell r)
 
-      pub decided : Agrees reg rec new done call → HasDecided b version word rec now
+      pub decided : Agrees reg rec new done call → HasDecided b version word rec None now
       decided agrees = record {
         at = read_at;
+        carried = read_idle;
         turn = turn_more p.steps loads (still_lost loads (loads_still (word / 2) 0 (length mid.view.seen) r.words)) h.turn;
         claim = read_claim;
         there = read_there;
@@ -219,9 +231,9 @@ module _ {shared : ObjectData} {reg : ℕ} {new : List ℕ} {done : Reply} {call
 
     -- AN ANSWER
     module _ {lost most : ℕ} {now : SeatData} (t : AtTurn b lost most now) where
-      pub tells : (q : ℕ) (reply : Reply) → b.look ≤ q → IsRight now.view.plan now.view.seen now.view.stands (reading q call reply now.view)
+      pub tells : now.holding ≡ [] → (q : ℕ) (reply : Reply) → b.look ≤ q → IsRight now.view.plan now.view.seen now.view.stands (reading q call reply now.view)
           → ((need free : ℕ) → reply ≡ Full need free → ⊥) → MayEnd reg b.look q call reply t.past.steps b.before now
-      tells q reply late right full = record {
+      tells idle q reply late right full = record {
         goes = t.past.calling.goes;
         looked = t.past.calling.looked;
         paced = t.past.paced;
@@ -230,7 +242,7 @@ module _ {shared : ObjectData} {reg : ℕ} {new : List ℕ} {done : Reply} {call
         late = late;
         right = right;
         idle = b.began.ready.idle;
-        idle_now = t.past.idle;
+        idle_now = idle;
         full = λ need free e. absurd (full need free e);
       }
 
@@ -263,11 +275,11 @@ module _ {shared : ObjectData} {reg : ℕ} {new : List ℕ} {done : Reply} {call
           )
 
     -- the record is there already
-    module _ {version word : ℕ} {rec : List ℕ} {now : SeatData} (d : HasDecided b version word rec now) (same : is_same rec new ≡ true) where
+    module _ {version word : ℕ} {rec : List ℕ} {now : SeatData} (d : HasDecided b version word rec None now) (same : is_same rec new ≡ true) where
       pub end_there : MayEnd reg b.look (length now.view.seen) call done d.at.past.steps b.before now
       end_there =
           let none : is_change (state_at now.view.seen (length now.view.seen)) call ≡ false = d.agrees.changes (state_at now.view.seen (length now.view.seen)) d.there ∙ ap not same in
-          tells d.at (length now.view.seen) done d.at.past.calling.looked.upto
+          tells d.at d.carried (length now.view.seen) done d.at.past.calling.looked.upto
           (right_at now.view (length now.view.seen) call done (omega arith) (legal_now d.at.past) (d.agrees.says now.view.plan (stock now.view)
           (state_at now.view.seen (length now.view.seen)) (take (length now.view.seen) now.view.seen)
           (held_by now.view.seen (number now.view) now.view.stands) d.there)
@@ -281,31 +293,34 @@ module _ {shared : ObjectData} {reg : ℕ} {new : List ℕ} {done : Reply} {call
 pub record HasRoomFor {shared : ObjectData} {reg : ℕ} {new : List ℕ} {done : Reply} {call : Call} (b : Begun shared reg new done call)
     (version word seen : ℕ) (now : SeatData) : Type 0 where
   pub past : Past b 0 (WIDTH + 6 + 4 * b.before.view.plan.seats) now
+  pub idle : now.holding ≡ []
   pub turn : HasTurn reg version word past.steps
   pub claim : HasClaim BACK reg word now
   pub seen_is : length now.view.seen ≡ seen
   pub changes : is_change (state_at now.view.seen (length now.view.seen)) call ≡ true
   pub free : 0 < length now.free
 
-module _ {shared : ObjectData} {reg : ℕ} {new : List ℕ} {done : Reply} {call : Call} {b : Begun shared reg new done call} {version word : ℕ} {rec : List ℕ} {u : SeatData}
-    (d : HasDecided b version word rec u) where
-  -- where none was, this is the call's first turn
-  pub turn_first : u.free ≡ [] → OnlyLooked d.at.past.steps b.before u
-  turn_first none = ⊎_elim (λ o. o) (λ t. absurd (let free = t.1 in omega (arith, ap (length {A = ℕ}) none))) d.at.turn
+-- it would change the register
+pub changes_now : {shared : ObjectData} {reg : ℕ} {new : List ℕ} {done : Reply} {call : Call} {b : Begun shared reg new done call} {version word : ℕ} {rec : List ℕ} {kept : Option ℕ}
+    {u : SeatData} → HasDecided b version word rec kept u → is_same rec new ≡ false → is_change (state_at u.view.seen (length u.view.seen)) call ≡ true
+changes_now {u = u} d other = d.agrees.changes (state_at u.view.seen (length u.view.seen)) d.there ∙ ap not other
 
-  -- it would change the register
-  pub changes_now : is_same rec new ≡ false → is_change (state_at u.view.seen (length u.view.seen)) call ≡ true
-  changes_now other = d.agrees.changes (state_at u.view.seen (length u.view.seen)) d.there ∙ ap not other
+module _ {shared : ObjectData} {reg : ℕ} {new : List ℕ} {done : Reply} {call : Call} {b : Begun shared reg new done call} {version word : ℕ} {rec : List ℕ} {u : SeatData}
+    (d : HasDecided b version word rec None u) where
+  -- where no node is free or kept, this is the call's first turn
+  pub turn_first : u.free ≡ [] → OnlyLooked d.at.past.steps b.before u
+  turn_first none = ⊎_elim (λ o. o) (λ t. absurd (let some = t.1 in omega (arith, ap (length {A = ℕ}) none, ap (length {A = ℕ}) d.carried))) d.at.turn
 
   -- a node was free already
   room_there : is_same rec new ≡ false → 0 < length u.free → HasRoomFor b version word (length u.view.seen) u
   room_there other free =
       record {
         past = past_within d.at.past (omega arith) (omega arith);
+        idle = d.carried;
         turn = d.turn;
         claim = d.claim;
         seen_is = refl;
-        changes = changes_now other;
+        changes = changes_now d other;
         free = free;
       }
 
@@ -325,14 +340,17 @@ module _ {shared : ObjectData} {reg : ℕ} {new : List ℕ} {done : Reply} {call
           steps = p.steps ++ scan;
           calling = calling_then p.calling (scan_goes s p.law law reg) (s.claims HOLD (λ e. absurd (omega arith)));
           paced = paces_then p.paced (scan_paced s p.law law 1);
-          scans = inr (omega (arith, scan_loads-append p.steps scan, scan_all s p.law law), omega (arith, ap (length {A = ℕ}) o.free, ap (length {A = ℕ}) none));
+          scans = inr (
+            omega (arith, scan_loads-append p.steps scan, scan_all s p.law law),
+            let nodes = o.nodes in omega (arith, ap (length {A = ℕ}) none, ap (length {A = ℕ}) d.carried),
+          );
           walk = s.walk_none;
           own = ap (λ (y : Claim). y.word) (s.claims OWN (λ e. absurd (omega arith))) ∙ p.own;
-          idle = ap (λ (z : SeatData). z.holding) s.same ∙ p.idle;
           law = law;
           never = λ never. let none_tried = p.never never in omega (arith, exchanges-append p.steps scan, scan_tried s p.law law);
           spent = λ once. costs_then scan (p.spent once) (scan_lost s p.law law) (scan_tried s p.law law) (omega (arith, scan_few s p.law law));
         };
+        idle = ap (λ (z : SeatData). z.holding) s.same ∙ d.carried;
         turn = turn_more p.steps scan (scan_lost s p.law law) d.turn;
         claim = record {
           stands = subst (λ (y : Claim). On y (word / 2)) (sym same) d.claim.stands;
@@ -342,7 +360,7 @@ module _ {shared : ObjectData} {reg : ℕ} {new : List ℕ} {done : Reply} {call
           none = λ is. ap (λ (z : SeatData). z.noted) s.same ∙ d.claim.none is;
         };
         seen_is = ap (length {A = Entry}) seen;
-        changes = ap (λ (l : List Entry). is_change (state_at l (length l)) call) seen ∙ changes_now other;
+        changes = ap (λ (l : List Entry). is_change (state_at l (length l)) call) seen ∙ changes_now d other;
         free = free;
       }
 

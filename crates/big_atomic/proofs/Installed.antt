@@ -10,7 +10,7 @@ use Rattle.big_atomic.proofs.Pacing.{paces_still, paces_then}
 use Rattle.big_atomic.proofs.Paid.{costs_then, costs_within, exchanges-append, lost-append, scan_loads-append}
 use Rattle.big_atomic.proofs.Winning.{WonCall, all_steps, exchanges_most, stand, won_costs, won_ready, won_records, won_scanned, won_tried}
 use Rattle.big_atomic.specs.Calling.{Calling, Costs, Goes, HasLost, HasWon, OnlySteps, Paces}
-use Rattle.big_atomic.specs.Installing.{Exchanged, HasInstalled, HasMoved, HasNear, MayInstall, TriesMark}
+use Rattle.big_atomic.specs.Installing.{Exchanged, HasInstalled, HasMissed, HasMoved, HasNear, MayInstall, TriesMark}
 use Rattle.big_atomic.specs.Marks.{HasBegun, HasVersion}
 use Rattle.big_atomic.specs.Ready.{IsReady}
 use Rattle.big_atomic.specs.Turns.{exchanges, lost_steps, scan_loads}
@@ -167,21 +167,28 @@ installed_ours {cell = cell} {seen = seen} {node = node} {call = call} {before =
     released_ours Own h.refreshed after h.ends (refreshed_ours h.exchanged h.refreshed h.marked.only
     (exchanged_ours cell seen node call h.announced h.exchanged Installed h.won (announced_ours node before h.announced h.announces of)))
 
--- every held node is free again
-pub has_moved : {cell seen word : ℕ} (node : ℕ) (before announced exchanged released after : SeatData) → IsAnnounced Own node before announced → Sound announced.view
-    → HasLost cell seen word announced exchanged → IsReleased Own exchanged released → IsAllPutBack released after → HasMoved cell seen node word before after
-has_moved node before announced exchanged released after is sound lost ends back =
-    let free = ap (λ (z : SeatData). z.free) ends ∙ (ap (λ (z : SeatData). z.free) lost.same ∙ ap (λ (z : SeatData). z.free) is) in
-    let held = ap (λ (z : SeatData). z.holding) ends ∙ (ap (λ (z : SeatData). z.holding) lost.same ∙ ap (λ (z : SeatData). z.holding) is) in
+-- and through one that kept the held nodes
+pub missed_ours : {shared : ObjectData} {cell seen node word : ℕ} {before after : SeatData} (call : Call) → HasMissed cell seen node word before after → IsOf shared before → IsOf shared after
+missed_ours {cell = cell} {seen = seen} {node = node} {word = word} {before = before} {after = after} call m of =
+    released_ours Own m.exchanged after m.ends
+    (exchanged_ours cell seen node call m.announced m.exchanged (Moved word) m.lost (announced_ours node before m.announced m.announces of))
+
+pub missed_holding : {cell seen node word : ℕ} {before after : SeatData} → HasMissed cell seen node word before after → after.holding ≡ before.holding
+missed_holding m = ap (λ (z : SeatData). z.holding) m.ends ∙ (ap (λ (z : SeatData). z.holding) m.lost.same ∙ ap (λ (z : SeatData). z.holding) m.announces)
+
+-- which are put back then
+pub has_moved : {cell seen node word : ℕ} {before missed after : SeatData} → HasMissed cell seen node word before missed → IsAllPutBack missed after → HasMoved cell seen node word before after
+has_moved {after = after} m back =
+    let free = ap (λ (z : SeatData). z.free) m.ends ∙ (ap (λ (z : SeatData). z.free) m.lost.same ∙ ap (λ (z : SeatData). z.free) m.announces) in
     record {
-      announced = announced;
-      exchanged = exchanged;
-      announces = is;
-      sound = sound;
-      lost = lost;
+      announced = m.announced;
+      exchanged = m.exchanged;
+      announces = m.announces;
+      sound = m.sound;
+      lost = m.lost;
       holding = back.holding;
-      free = λ n. back.free n ∙ (λ i. times n (free i) + times n (held i));
-      ends = back.same ∙ ap (λ (z : SeatData). record z { free = after.free; holding = after.holding }) ends;
+      free = λ n. back.free n ∙ (λ i. times n (free i) + times n (missed_holding m i));
+      ends = back.same ∙ ap (λ (z : SeatData). record z { free = after.free; holding = after.holding }) m.ends;
     }
 
 -- WHAT A LOST INSTALL LEAVES
@@ -202,54 +209,77 @@ pub record LostInstall (cell : ℕ) (before after : SeatData) : Type 0 where
   pub own_none : (claim_of OWN after.view).word ≡ 0
   pub others : (c : ℕ) → c ≢ OWN → claim_of c after.view ≡ claim_of c before.view
 
-module _ {cell seen node word : ℕ} {before after : SeatData} (m : HasMoved cell seen node word before after) (law : IsSeat after) where
-  abbrev u : SeatData
-  u = m.announced
+-- the node was announced, the exchange lost, and the claim ended, whatever became of the held nodes
+record Loses (cell seen node word : ℕ) (before u w after : SeatData) : Type 0 where
+  pub announces : IsAnnounced Own node before u
+  pub known : Sound u.view
+  pub lost : HasLost cell seen word u w
+  pub view : after.view ≡ cleared_view OWN w.view
+  pub object : after.object ≡ w.object
+  pub first : after.first ≡ w.first
+  pub sound : Sound after.view
 
-  abbrev w : SeatData
-  w = m.exchanged
-
-  after_view : after.view ≡ cleared_view OWN w.view
-  after_view = ap (λ (z : SeatData). z.view) m.ends
-
+module _ {cell seen node word : ℕ} {before u w after : SeatData} (m : Loses cell seen node word before u w after) where
   abbrev cleared : List Counted
   cleared = clearing OWN w
 
   clear_goes : Goes cell (Some (length w.view.seen)) cleared w after
-  clear_goes = goes_still cell cleared w after (subst (λ (z : View). OnlySteps w.view z) (sym after_view) refl)
-      (ap (λ (z : View). z.trail) after_view) (ap (λ (z : View). z.seen) after_view) refl
-      (ap (λ (z : SeatData). z.object) m.ends) (ap (λ (z : SeatData). z.first) m.ends) (ap stock after_view) law.sound
+  clear_goes = goes_still cell cleared w after (subst (λ (z : View). OnlySteps w.view z) (sym m.view) refl)
+      (ap (λ (z : View). z.trail) m.view) (ap (λ (z : View). z.seen) m.view) refl
+      m.object m.first (ap stock m.view) m.sound
 
   abbrev lost_all : List Counted
   lost_all = announce_step node before u m.announces ++ (m.lost.tries ++ cleared)
 
-  pub lost_install : LostInstall cell before after
-  lost_install =
+  lost_between : LostInstall cell before after
+  lost_between =
       let one = m.lost.one_lost in
       let tried = m.lost.some_tried in
       let none = m.lost.none_scanned in
-      let first : List Counted = announce_step node before u m.announces in
+      let begin : List Counted = announce_step node before u m.announces in
       let view = announce_view node before u m.announces in
       let longer = lost_longer cell (length u.view.seen) w.view.plan w.view.seen m.lost.changed in
       record {
         steps = lost_all;
-        goes = goes_then (announce_goes node before u m.announces m.sound cell) (goes_then m.lost.goes clear_goes);
-        paced = paces_then (paces_still 1 first refl) (paces_then m.lost.paced (paces_still 0 cleared refl));
-        one_lost = omega (arith, lost-append first (m.lost.tries ++ cleared), lost-append m.lost.tries cleared);
-        some_tried = omega (arith, exchanges-append first (m.lost.tries ++ cleared), exchanges-append m.lost.tries cleared);
-        none_scanned = omega (arith, scan_loads-append first (m.lost.tries ++ cleared), scan_loads-append m.lost.tries cleared);
-        twice = let few = m.lost.few in omega (arith, exchanges_most m.lost.tries, exchanges-append first (m.lost.tries ++ cleared), exchanges-append m.lost.tries cleared);
-        few = let few = m.lost.few in omega (arith, length-append first (m.lost.tries ++ cleared), length-append m.lost.tries cleared);
+        goes = goes_then (announce_goes node before u m.announces m.known cell) (goes_then m.lost.goes clear_goes);
+        paced = paces_then (paces_still 1 begin refl) (paces_then m.lost.paced (paces_still 0 cleared refl));
+        one_lost = omega (arith, lost-append begin (m.lost.tries ++ cleared), lost-append m.lost.tries cleared);
+        some_tried = omega (arith, exchanges-append begin (m.lost.tries ++ cleared), exchanges-append m.lost.tries cleared);
+        none_scanned = omega (arith, scan_loads-append begin (m.lost.tries ++ cleared), scan_loads-append m.lost.tries cleared);
+        twice = let few = m.lost.few in omega (arith, exchanges_most m.lost.tries, exchanges-append begin (m.lost.tries ++ cleared), exchanges-append m.lost.tries cleared);
+        few = let few = m.lost.few in omega (arith, length-append begin (m.lost.tries ++ cleared), length-append m.lost.tries cleared);
         changed = subst (λ (z : Plan × ℕ × List Entry). ¬ NoneOn z.0 cell (drop z.1 z.2))
-            (λ i. (ap (λ (z : View). z.plan) (sym after_view) i, ap (λ (z : View). length z.seen) view i, ap (λ (z : View). z.seen) (sym after_view) i)) m.lost.changed;
-        longer = omega (arith, ap (λ (z : View). length z.seen) view, ap (λ (z : View). length z.seen) after_view);
-        retired = ap (λ (z : View). z.retired) after_view ∙ (ap (λ (z : View). z.retired) m.lost.view ∙ ap (λ (z : View). z.retired) view);
-        own = ap (λ (z : View). z.own) after_view ∙ (ap (λ (z : View). z.own) m.lost.view ∙ ap (λ (z : View). z.own) view);
-        own_none = ap (λ (z : View). (claim_of OWN z).word) after_view ∙ cleared_word w.view.claims OWN;
-        others = λ c other. ap (λ (z : View). claim_of c z) after_view
+            (λ i. (ap (λ (z : View). z.plan) (sym m.view) i, ap (λ (z : View). length z.seen) view i, ap (λ (z : View). z.seen) (sym m.view) i)) m.lost.changed;
+        longer = omega (arith, ap (λ (z : View). length z.seen) view, ap (λ (z : View). length z.seen) m.view);
+        retired = ap (λ (z : View). z.retired) m.view ∙ (ap (λ (z : View). z.retired) m.lost.view ∙ ap (λ (z : View). z.retired) view);
+        own = ap (λ (z : View). z.own) m.view ∙ (ap (λ (z : View). z.own) m.lost.view ∙ ap (λ (z : View). z.own) view);
+        own_none = ap (λ (z : View). (claim_of OWN z).word) m.view ∙ cleared_word w.view.claims OWN;
+        others = λ c other. ap (λ (z : View). claim_of c z) m.view
             ∙ (get_or-set_other w.view.claims OWN c (silent 0) (silent 0) other
             ∙ (ap (λ (z : View). claim_of c z) m.lost.view ∙ announce_else node before u m.announces c other));
       }
+
+pub missed_install : {cell seen node word : ℕ} {before after : SeatData} → HasMissed cell seen node word before after → IsSeat after → LostInstall cell before after
+missed_install m law = lost_between (record {
+  announces = m.announces;
+  known = m.sound;
+  lost = m.lost;
+  view = ap (λ (z : SeatData). z.view) m.ends;
+  object = ap (λ (z : SeatData). z.object) m.ends;
+  first = ap (λ (z : SeatData). z.first) m.ends;
+  sound = law.sound;
+})
+
+pub lost_install : {cell seen node word : ℕ} {before after : SeatData} → HasMoved cell seen node word before after → IsSeat after → LostInstall cell before after
+lost_install m law = lost_between (record {
+  announces = m.announces;
+  known = m.sound;
+  lost = m.lost;
+  view = ap (λ (z : SeatData). z.view) m.ends;
+  object = ap (λ (z : SeatData). z.object) m.ends;
+  first = ap (λ (z : SeatData). z.first) m.ends;
+  sound = law.sound;
+})
 
 -- HOW A CALL THAT INSTALLED IS ANSWERED
 -- it came to `now` by these steps, installed its chain, and then cleared Walk and Back

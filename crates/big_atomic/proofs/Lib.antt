@@ -21,6 +21,7 @@ pub mod Missing
 pub mod Pacing
 pub mod Paid
 pub mod Preparing
+pub mod PuttingBack
 pub mod Reading
 pub mod Refusing
 pub mod Renewing

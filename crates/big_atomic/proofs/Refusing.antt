@@ -1,14 +1,16 @@
 -- How a compare-and-swap is answered No.
-use Rattle.std.proofs.Common.{◌≡◌, ◌∙◌, ℕ, ◌+◌, ◌-◌, ◌*◌, ◌<◌, ◌≤◌, Bool, true, false, not, ◌&&◌, cond, List, length, drop, sym, ap, subst, arith}
+use Rattle.std.proofs.Common.{◌≡◌, ◌∙◌, ℕ, ◌+◌, ◌-◌, ◌*◌, ◌<◌, ◌≤◌, Bool, true, false, not, ◌&&◌, cond, List, [], length, drop, sym, ap, subst, arith}
 use Rattle.std.proofs.lemmas.Bool.{false≢true}
 use Rattle.big_atomic.proofs.Answered.{EndsAs, MayEnd, may_answer, may_ended, right_at}
 use Rattle.big_atomic.proofs.Deciding.{past_within, swapped, tells, there_now, told}
+use Rattle.big_atomic.proofs.PuttingBack.{at_back}
 use Rattle.big_atomic.proofs.Unlike.{IsFirst, first_is, unlike_at}
 use Rattle.big_atomic.specs.Calling.{refused_at}
 use Rattle.big_atomic.specs.Calls.{IsSwapped, register_at}
 use Rattle.big_atomic.specs.Giving.{AtTurn, Begun, HasLostTurn, HasOther, IsOnce, IsUnlike}
 use Rattle.big_atomic.specs.Ready.{IsReady}
 use Rattle.big_atomic.specs.declared.answers.Swap.TheVariants.{No as SwapNo}
+use Rattle.node_pool.specs.Pool.{IsAllPutBack}
 use Rattle.seat_history.proofs.Changed.{same_from_words, words_from_same}
 use Rattle.seat_history.specs.History.{state_at}
 use Rattle.seat_history.specs.Step.{is_same}
@@ -55,7 +57,7 @@ module _ {shared : ObjectData} {reg : ℕ} {old new : List ℕ} {b : Begun share
   first = first_refused reg old new q now.view (subst (λ n. IsUnlike reg old n now.view) once.look_is o.unlike)
 
   end : MayEnd reg b.look place (Swap reg old new) No o.at.past.steps b.before now
-  end = tells o.at place No (let late = first.late in let is = once.look_is in omega arith) (right_no now.view place reg old new first.within
+  end = tells o.at o.idle place No (let late = first.late in let is = once.look_is in omega arith) (right_no now.view place reg old new first.within
       (there_now o.at.past) first.unlike) (λ need free e. absurd cc)
 
   pub may_refuse : {mid : SeatData} → IsReleased Back now mid → MayAnswer (refused_at q (Swap reg old new) mid.view) (Swap reg old new) No mid
@@ -79,7 +81,7 @@ module _ {shared : ObjectData} {reg : ℕ} {old new : List ℕ} {b : Begun share
 
 -- a turn that lost no exchange is one that lost at most one
 module _ {shared : ObjectData} {reg : ℕ} {old new : List ℕ} {b : Begun shared reg new Yes (Swap reg old new)} {lost most : ℕ} {now : SeatData} (t : AtTurn b lost most now)
-    (low : lost ≤ 1) (few : most ≤ 2 * WIDTH + 13 + 4 * b.before.view.plan.seats) where
+    (low : lost ≤ 1) (few : most ≤ 2 * WIDTH + 13 + 4 * b.before.view.plan.seats) (idle : now.holding ≡ []) where
   abbrev within : AtTurn b 1 (2 * WIDTH + 13 + 4 * b.before.view.plan.seats) now
   within = record { past = past_within t.past low few; turn = t.turn }
 
@@ -87,12 +89,16 @@ module _ {shared : ObjectData} {reg : ℕ} {old new : List ℕ} {b : Begun share
   pub read_unlike : {rec : List ℕ} → register_at now.view (length now.view.seen) reg ≡ rec → is_same rec old ≡ false → HasOther b old now
   read_unlike there other = record {
     at = within;
+    idle = idle;
     unlike = record { place = length now.view.seen; late = t.past.calling.looked.upto; within = omega arith; unlike = ap (λ (l : List ℕ). is_same l old) there ∙ other };
   }
 
   -- others changed the register since a look
   pub changed_unlike : {seen : ℕ} → b.look ≤ seen → ¬ NoneOn now.view.plan reg (drop seen now.view.seen) → HasOther b old now
-  changed_unlike {seen} late changed = record { at = within; unlike = unlike_since reg b.look seen old now.view t.past.law.sound (there_now t.past) late changed }
+  changed_unlike {seen} late changed = record { at = within; idle = idle; unlike = unlike_since reg b.look seen old now.view t.past.law.sound (there_now t.past) late changed }
 
-pub lost_unlike : {shared : ObjectData} {reg seen : ℕ} {old new : List ℕ} {b : Begun shared reg new Yes (Swap reg old new)} {now : SeatData} → HasLostTurn b seen now → HasOther b old now
-lost_unlike l = changed_unlike l.at (omega arith) (omega arith) l.late l.changed
+-- nor does one whose node was put back
+pub lost_unlike : {shared : ObjectData} {reg seen node : ℕ} {old new : List ℕ} {b : Begun shared reg new Yes (Swap reg old new)} {lost now : SeatData} → HasLostTurn b seen node lost
+    → IsAllPutBack lost now → IsSeat now → HasOther b old now
+lost_unlike {reg = reg} {seen = seen} l back law = changed_unlike (at_back back law l.at) (omega arith) (omega arith) back.holding l.late
+    (subst (λ (z : View). ¬ NoneOn z.plan reg (drop seen z.seen)) (sym (ap (λ (z : SeatData). z.view) back.same)) l.changed)

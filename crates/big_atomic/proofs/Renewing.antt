@@ -2,23 +2,24 @@
 use Rattle.std.proofs.Common.{◌≡◌, ◌≢◌, ◌∙◌, ℕ, ◌+◌, ◌*◌, ◌/◌, ◌<◌, true, false, List, [], ◌∷◌, ◌++◌, length, take, drop, length-append, refl, sym, ap, subst, arith, inl, inr, ⊎_elim}
 use Rattle.std.proofs.lemmas.Bool.{false≢true}
 use Rattle.std.proofs.lemmas.List.{take_all}
-use Rattle.big_atomic.proofs.Answered.{goes_of}
-use Rattle.big_atomic.proofs.Deciding.{HasRoomFor, past_ours, there_now}
+use Rattle.big_atomic.proofs.Deciding.{there_now}
 use Rattle.big_atomic.proofs.Ending.{released_else}
 use Rattle.big_atomic.proofs.Goings.{calling_then}
-use Rattle.big_atomic.proofs.Installed.{EndsChange, LostInstall, announce_else, change_costs, change_ready, change_scanned, change_tried, lost_install, no_lock, won_change}
-use Rattle.big_atomic.proofs.Marking.{turn_begun, turn_more}
+use Rattle.big_atomic.proofs.Installed.{EndsChange, LostInstall, announce_else, change_costs, change_ready, change_scanned, change_tried, missed_holding, missed_install, no_lock, won_change}
+use Rattle.big_atomic.proofs.Marking.{turn_begun}
 use Rattle.big_atomic.proofs.Pacing.{paces_then, paces_within}
-use Rattle.big_atomic.proofs.Paid.{costs_then, costs_within, exchanges-append, lost-append, scan_loads-append}
+use Rattle.big_atomic.proofs.Paid.{costs_within, exchanges-append, lost-append, scan_loads-append}
+use Rattle.big_atomic.proofs.Preparing.{HasNodeFor}
 use Rattle.big_atomic.proofs.Winning.{all_steps, has_won, won_reply, won_stays}
-use Rattle.big_atomic.specs.Calling.{Calling, Costs, HoldsFilled, Paces}
+use Rattle.big_atomic.specs.Calling.{Costs, Paces}
 use Rattle.big_atomic.specs.Calls.{ScansForWant}
-use Rattle.big_atomic.specs.Giving.{Begun, HasLostTurn, HasTold, Past}
-use Rattle.big_atomic.specs.Installing.{HasInstalled, HasMoved, MayInstall}
-use Rattle.big_atomic.specs.Marks.{HasBegun, HasTurn}
+use Rattle.big_atomic.specs.Giving.{Begun, HasLostTurn, HasTold, HoldsNode, Past}
+use Rattle.big_atomic.specs.Installing.{HasInstalled, HasMissed, HasNear, MayInstall}
+use Rattle.big_atomic.specs.Marks.{HasBegun}
 use Rattle.big_atomic.specs.Turns.{exchanges, scan_loads}
 use Rattle.hazard_claims.specs.Claiming.{IsReleased}
 use Rattle.hazard_claims.specs.declared.claims.Claim.TheVariants.{Back, Own}
+use Rattle.node_pool.proofs.Taken.{has_added}
 use Rattle.seat_history.specs.Change.{is_change}
 use Rattle.seat_history.specs.Contents.{Contents}
 use Rattle.seat_history.specs.History.{state_at}
@@ -29,62 +30,54 @@ use Rattle.seat_history.specs.declared.words.TheConstants.{WIDTH}
 use Rattle.step_rules.proofs.Numbers.Places.{at_there}
 use Rattle.step_rules.proofs.Order.MayChange.{front_may}
 use Rattle.step_rules.proofs.Order.RecordsTell.{register_records}
+use Rattle.step_rules.proofs.Ties.Tied.{own_held}
 use Rattle.step_rules.proofs.Ties.Notes.{drops_alone}
 use Rattle.step_rules.proofs.World.Registers.{claim_chain, one_has, page_record}
-use Rattle.step_rules.specs.Claims.{BACK, HOLD, IsClaim, OWN, On, WALK}
+use Rattle.step_rules.specs.Claims.{BACK, HOLD, IsClaim, WALK}
 use Rattle.step_rules.specs.Fronts.{IsFront}
 use Rattle.step_rules.specs.History.{NoneOn}
 use Rattle.step_rules.specs.Records.{Edit, dropped_count, is_change_in, need, records_at, records_of, set}
-use Rattle.step_rules.specs.SeatData.{IsOf, IsSeat, ObjectData, SeatData}
+use Rattle.step_rules.specs.SeatData.{IsSeat, ObjectData, SeatData}
 use Rattle.step_rules.specs.Steps.{DropsNoted, HoldsFront}
 use Rattle.step_rules.specs.Views.{claim_of, claimed_pages, claimed_records, followed, silent, words_in}
 use Rattle.step_rules.specs.World.{Linked, has, link, nodes_of}
 use Rattle.step_rules.specs.declared.layout.TheConstants.{NODE_WIDTH}
-use Rattle.step_rules.specs.declared.plan.Plan.{Plan}
 use Rattle.step_rules.specs.declared.view.Claim.{Claim}
 use Rattle.step_rules.specs.declared.view.Counted.{Counted}
 use Rattle.step_rules.specs.declared.view.Held.{Held}
 use Rattle.step_rules.specs.declared.view.Stage.TheVariants.{Locked}
 use Rattle.step_rules.specs.declared.view.View.{View}
 
-module _ {shared : ObjectData} {reg : ℕ} {new : List ℕ} {done : Reply} {call : Call} {b : Begun shared reg new done call} {version word seen node : ℕ} {u w : SeatData}
-    (r : HasRoomFor b version word seen u) (f : HoldsFilled node new u w) (law : IsSeat w) where
-  -- THE NODE IS FILLED
-  back : claim_of BACK w.view ≡ claim_of BACK u.view
-  back = ap (λ (z : View). claim_of BACK z) f.view
-
-  seen_same : w.view.seen ≡ u.view.seen
-  seen_same = ap (λ (z : View). z.seen) f.view
-
-  stands : On (claim_of BACK w.view) (word / 2)
-  stands = subst (λ (y : Claim). On y (word / 2)) (sym back) r.claim.stands
-
-  cell_is : (claim_of BACK w.view).cell ≡ reg
-  cell_is = ap (λ (y : Claim). y.cell) back ∙ r.claim.cell
-
-  at_is : (claim_of BACK w.view).at ≡ length w.view.seen
-  at_is = ap (λ (y : Claim). y.at) back ∙ (r.claim.now_at ∙ ap (length {A = Entry}) (sym seen_same))
+module _ {shared : ObjectData} {reg : ℕ} {new : List ℕ} {done : Reply} {call : Call} {b : Begun shared reg new done call} {version word seen node : ℕ} {w : SeatData}
+    (r : HasNodeFor b version word seen node w) where
+  -- THE NODE IS HELD
+  abbrev law : IsSeat w
+  law = r.past.law
 
   told_now : IsClaim w.view.plan w.view.seen (claim_of BACK w.view) (word / 2)
   told_now =
       let four = law.sound.claims.four in
-      law.sound.claims.told BACK (word / 2) (claim_of BACK w.view) (at_there w.view.claims BACK (silent 0) (omega arith)) (inl refl) stands
+      law.sound.claims.told BACK (word / 2) (claim_of BACK w.view) (at_there w.view.claims BACK (silent 0) (omega arith)) (inl refl) r.claim.stands
 
   inside : reg < w.view.plan.registers
-  inside = subst (λ (p : Plan). reg < p.registers) (sym (ap (λ (z : View). z.plan) f.view)) (there_now r.past)
+  inside = there_now r.past
 
   -- the claimed chain is one node, with the register's record
   alone : drop 1 (claimed_pages w.view) ≡ []
-  alone = ap (drop 1) (claim_chain w.view.plan w.view.seen (claim_of BACK w.view) (word / 2) told_now (subst (λ n. n < w.view.plan.registers) (sym cell_is) inside))
+  alone = ap (drop 1) (claim_chain w.view.plan w.view.seen (claim_of BACK w.view) (word / 2) told_now
+      (subst (λ n. n < w.view.plan.registers) (sym r.claim.cell) inside))
 
   records : claimed_records w.view ≡ (state_at w.view.seen (length w.view.seen)).registers reg ∷ []
-  records = told_now.records ∙ ((λ i. records_at w.view.plan (take (at_is i) w.view.seen) (cell_is i))
+  records = told_now.records ∙ ((λ i. records_at w.view.plan (take (r.claim.now_at i) w.view.seen) (r.claim.cell i))
       ∙ (ap (λ (l : List Entry). records_at w.view.plan l reg) (take_all (length w.view.seen) w.view.seen (omega arith)) ∙ register_records w.view.plan w.view.seen reg inside))
+
+  own : has (nodes_of w.view.own) node ≡ true
+  own = own_held node (nodes_of w.view.own) w.free w.holding (law.lists node) (subst (λ (l : List ℕ). has l node ≡ true) (sym r.carried.holding) (has_added [] node))
 
   front : IsFront node (set 0 new) w.view
   front =
-      let page = page_record node (words_in w.view.own node) new f.words b.gives.long in record {
-        own = λ m h. subst (λ j. has (nodes_of w.view.own) j ≡ true) (one_has node m h) f.own;
+      let page = page_record node (words_in w.view.own node) new r.carried.words b.gives.long in record {
+        own = λ m h. subst (λ j. has (nodes_of w.view.own) j ≡ true) (one_has node m h) own;
         once = (refl, tt);
         linked = subst (λ (z : List Held). Linked (record { node = node; words = words_in w.view.own node } ∷ []) (link z 0)) (sym alone) (page.1, tt);
         records = page.0;
@@ -93,102 +86,79 @@ module _ {shared : ObjectData} {reg : ℕ} {new : List ℕ} {done : Reply} {call
       }
 
   changes_in : is_change_in (claimed_records w.view) call ≡ true
-  changes_in = ap (λ (rs : List (List ℕ)). is_change_in rs call) records ∙ (b.gives.changes (state_at w.view.seen (length w.view.seen))
-      ∙ (ap (λ (l : List Entry). is_change (state_at l (length l)) call) seen_same ∙ r.changes))
+  changes_in = ap (λ (rs : List (List ℕ)). is_change_in rs call) records ∙ (b.gives.changes (state_at w.view.seen (length w.view.seen)) ∙ r.changes)
 
   pub give_may : MayInstall reg word node call w.view
   give_may = front_may law.sound
       (record {
-        stands = stands;
-        cell = cell_is;
+        stands = r.claim.stands;
+        cell = r.claim.cell;
         on = b.gives.on w.view.plan;
         there = b.gives.inside w.view.plan inside;
         changes = changes_in;
         wide = b.gives.wide;
-        left = let left = b.began.left in omega (arith, ap (λ (z : View). z.changes) f.view, ap (λ (z : View). z.changes) r.past.calling.goes.only);
+        left = let left = b.began.left in omega (arith, ap (λ (z : View). z.changes) r.past.calling.goes.only);
         removes = let none = b.gives.removes in omega arith;
       })
       (subst (λ (e : Edit). IsFront node e w.view) (sym (b.gives.edits (claimed_records w.view))) front)
 
-  held : w.holding ≡ node ∷ []
-  held = f.holding ∙ ap (λ (l : List ℕ). l ++ node ∷ []) r.past.idle
-
   pub give_front : HoldsFront node call w
-  give_front m = ap (λ (l : List ℕ). has l m) held
+  give_front m = ap (λ (l : List ℕ). has l m) r.carried.holding
       ∙ sym (ap (λ (e : Edit). has (nodes_of (followed w.view.own node (need (length (claimed_records w.view)) e))) m) (b.gives.edits (claimed_records w.view)))
 
   pub give_noted : DropsNoted call w
-  give_noted = drops_alone call w (ap (λ (e : Edit). dropped_count (length (claimed_records w.view)) e) (b.gives.edits (claimed_records w.view))) (f.noted ∙ r.claim.none refl)
+  give_noted = drops_alone call w (ap (λ (e : Edit). dropped_count (length (claimed_records w.view)) e) (b.gives.edits (claimed_records w.view))) (r.claim.none refl)
 
-  pub give_ours : IsOf shared w
-  give_ours = goes_of (f.goes reg) (past_ours r.past)
+  pub give_near : HasNear reg word w.view
+  give_near = record { word = word; found = r.claim.found; near = refl; fell = omega arith }
 
   pub give_unlocked : w.view.writer.stage ≢ Locked
-  give_unlocked = no_lock w.view law.sound (ap (λ (z : View). (claim_of OWN z).word) f.view ∙ r.past.own)
-
-  abbrev steps : List Counted
-  steps = r.past.steps ++ f.steps
-
-  calling : Calling reg steps b.look b.before w
-  calling = calling_then r.past.calling (f.goes reg) (ap (λ (z : View). claim_of HOLD z) f.view)
+  give_unlocked = no_lock w.view law.sound r.past.own
 
   -- its version was found in this turn
-  turn : HasTurn reg version word steps
-  turn = turn_more r.past.steps f.steps f.none_lost r.turn
-
   pub give_begun : HasBegun reg version word w.view
-  give_begun = turn_begun b.before.view w.view b.began.ready.law.sound.trail.within (ap (λ (z : View). z.since) calling.goes.only) calling.goes.trail turn
-
-  -- its claim still serves
-  paced : Paces 0 1 steps
-  paced = let none = f.none_claimed in let none_tried = f.looks.none_exchanged in paces_then {mid = 1} r.past.paced (record { rounds = omega arith; tries = omega arith })
-
-  spent : b.once ≡ true → Costs 0 0 (2 * WIDTH + 8 + 4 * b.before.view.plan.seats) steps
-  spent once = let few = f.few in costs_then f.steps (r.past.spent once) f.none_lost f.looks.none_exchanged (omega arith)
+  give_begun = turn_begun b.before.view w.view b.began.ready.law.sound.trail.within (ap (λ (z : View). z.since) r.past.calling.goes.only) r.past.calling.goes.trail r.turn
 
   -- a call that never changes anything doesn't come here
   not_never : ((c : Contents) → is_change c call ≡ false) → ⊥
-  not_never never = false≢true (sym (never (state_at u.view.seen (length u.view.seen))) ∙ r.changes)
+  not_never never = false≢true (sym (never (state_at w.view.seen (length w.view.seen))) ∙ r.changes)
 
   -- THE INSTALL WAS LOST
-  module _ {other : ℕ} {after : SeatData} (m : HasMoved reg word node other w after) (last : IsSeat after) where
+  module _ {other : ℕ} {after : SeatData} (m : HasMissed reg word node other w after) (last : IsSeat after) where
     abbrev l : LostInstall reg w after
-    l = lost_install m last
+    l = missed_install m last
 
     abbrev lost_all : List Counted
-    lost_all = steps ++ l.steps
+    lost_all = r.past.steps ++ l.steps
 
     paced_lost : Paces 0 0 lost_all
-    paced_lost = paces_then paced l.paced
+    paced_lost = paces_then r.past.paced l.paced
 
     tried : 0 < exchanges lost_all
-    tried = let some = l.some_tried in omega (arith, exchanges-append steps l.steps)
+    tried = let some = l.some_tried in omega (arith, exchanges-append r.past.steps l.steps)
 
-    -- the node is free again
-    free : 0 < length after.free
-    free =
-        let long = law.long in
-        let longer = last.long in
-        let stock = l.goes.stock in
-        omega (arith, ap (length {A = ℕ}) held, ap (length {A = ℕ}) m.holding, ap (length {A = ℕ}) l.retired)
+    -- the node is kept
+    carried : HoldsNode node new after
+    carried = record {
+      holding = missed_holding m ∙ r.carried.holding;
+      words = ap (λ (held : List Held). words_in held node) l.own ∙ r.carried.words;
+    }
 
     abbrev lost_past : Past b 1 (2 * WIDTH + 13 + 4 * b.before.view.plan.seats) after
     lost_past = record {
       steps = lost_all;
-      calling = calling_then calling l.goes (l.others HOLD (λ e. absurd (omega arith)));
+      calling = calling_then r.past.calling l.goes (l.others HOLD (λ e. absurd (omega arith)));
       paced = paces_within paced_lost (omega arith);
       scans =
           let none = l.none_scanned in
-          let none_before = f.looks.none_scanned in
-          ⊎_elim (λ e. inl (omega (arith, scan_loads-append steps l.steps, scan_loads-append r.past.steps f.steps)))
-          (λ e. let all = e.0 in inr (omega (arith, scan_loads-append steps l.steps, scan_loads-append r.past.steps f.steps), e.1)) r.past.scans;
-      walk = ap (λ (y : Claim). y.word) (l.others WALK (λ e. absurd (omega arith))) ∙ (ap (λ (z : View). (claim_of WALK z).word) f.view ∙ r.past.walk);
+          ⊎_elim (λ e. inl (omega (arith, scan_loads-append r.past.steps l.steps)))
+          (λ e. let all = e.0 in inr (omega (arith, scan_loads-append r.past.steps l.steps), e.1)) r.past.scans;
+      walk = ap (λ (y : Claim). y.word) (l.others WALK (λ e. absurd (omega arith))) ∙ r.past.walk;
       own = l.own_none;
-      idle = m.holding;
       law = last;
       never = λ never. absurd (not_never never);
       spent = λ once.
-          let s = spent once in
+          let s = r.past.spent once in
           let none_lost = s.lost_most in
           let none_tried = s.tried_most in
           let few = s.most in
@@ -196,23 +166,24 @@ module _ {shared : ObjectData} {reg : ℕ} {new : List ℕ} {done : Reply} {call
           let twice = l.twice in
           let four = l.few in
           record {
-            lost_most = omega (arith, lost-append steps l.steps);
-            tried_most = omega (arith, exchanges-append steps l.steps);
-            most = omega (arith, length-append steps l.steps);
+            lost_most = omega (arith, lost-append r.past.steps l.steps);
+            tried_most = omega (arith, exchanges-append r.past.steps l.steps);
+            most = omega (arith, length-append r.past.steps l.steps);
           };
     }
 
-    pub lost_turn : HasLostTurn b seen after
+    pub lost_turn : HasLostTurn b seen node after
     lost_turn =
-        let at : length w.view.seen ≡ seen = ap (length {A = Entry}) seen_same ∙ r.seen_is in
         let longer = l.longer in
+        let is = r.seen_is in
         record {
-          at = record { past = lost_past; turn = inr (tried, free) };
+          at = record { past = lost_past; turn = inr (tried, omega (arith, ap (length {A = ℕ}) carried.holding)) };
+          carried = carried;
           tried = tried;
           paced = paced_lost;
           changes = not_never;
-          late = let upto = r.past.calling.looked.upto in let is = r.seen_is in omega arith;
-          changed = subst (λ n. ¬ NoneOn after.view.plan reg (drop n after.view.seen)) at l.changed;
+          late = let upto = r.past.calling.looked.upto in omega arith;
+          changed = subst (λ n. ¬ NoneOn after.view.plan reg (drop n after.view.seen)) is l.changed;
           longer = omega arith;
         }
 
@@ -224,19 +195,19 @@ module _ {shared : ObjectData} {reg : ℕ} {new : List ℕ} {done : Reply} {call
         ∙ (ap (λ (z : SeatData). claim_of WALK z.view) i.marked.only.same
         ∙ (ap (λ (z : View). claim_of WALK z) i.won.won.wins.after
         ∙ (ap (λ (z : View). claim_of WALK z) i.won.retried.view ∙ announce_else node w i.announced i.announces WALK (λ e. absurd (omega arith))))))
-        ∙ (ap (λ (z : View). (claim_of WALK z).word) f.view ∙ r.past.walk)
+        ∙ r.past.walk
 
-    abbrev e : EndsChange shared reg version word node call steps b.look b.before w after after final
+    abbrev e : EndsChange shared reg version word node call r.past.steps b.look b.before w after after final
     e = record {
       ready = b.began.ready;
       first = b.began.ready.law;
       left = b.began.left;
       on = b.gives.on b.before.view.plan;
       keeps = b.gives.keeps;
-      calling = calling;
-      paced = paced;
+      calling = r.past.calling;
+      paced = r.past.paced;
       installed = i;
-      loaded = turn.loaded;
+      loaded = r.turn.loaded;
       walk = inl (refl, walk_none);
       back = ends;
       last = last;
@@ -247,8 +218,7 @@ module _ {shared : ObjectData} {reg : ℕ} {new : List ℕ} {done : Reply} {call
         let wc = won_change e in
         let h = has_won wc (won_reply wc b.gives.replies) in
         let all : List Counted = all_steps wc in
-        let none = f.looks.none_scanned in
-        let same : scan_loads all ≡ scan_loads r.past.steps = change_scanned e ∙ omega (arith, scan_loads-append r.past.steps f.steps) in
+        let same : scan_loads all ≡ scan_loads r.past.steps = change_scanned e in
         record {
           answered = h.answered;
           look_is = h.look_is;
@@ -259,5 +229,5 @@ module _ {shared : ObjectData} {reg : ℕ} {new : List ℕ} {done : Reply} {call
           full = λ need free is. absurd (b.gives.not_full need free is);
           never = λ never. absurd (not_never never);
           spent = λ once. subst (λ (l : List Counted). Costs 1 2 (3 * NODE_WIDTH + 4 * b.before.view.plan.seats + 16) l) (sym h.steps_are)
-              (costs_within (change_costs e (spent once)) (omega arith) (omega arith) (omega arith));
+              (costs_within (change_costs e (r.past.spent once)) (omega arith) (omega arith) (omega arith));
         }

@@ -1,5 +1,5 @@
 -- How a call is answered Full.
-use Rattle.std.proofs.Common.{◌≡◌, ◌∙◌, ℕ, ◌+◌, ◌*◌, ◌<◌, ◌≤◌, false, List, [], ◌∷◌, ◌++◌, Option}
+use Rattle.std.proofs.Common.{◌≡◌, ◌∙◌, ℕ, ◌+◌, ◌*◌, ◌<◌, ◌≤◌, false, List, [], ◌∷◌, ◌++◌, Option, None, Some}
 use Rattle.std.proofs.Common.{length, take, drop, filter, append_assoc, refl, sym, ap, subst, arith, ◌⊎◌, inl, inr, ⊎_elim}
 use Rattle.std.proofs.lemmas.Bool.{and_right, cases_Bool}
 use Rattle.big_atomic.proofs.Answered.{MayEnd, ended_back, held_then, right_at, scanned_since, EndsAs, ended_as}
@@ -7,7 +7,7 @@ use Rattle.big_atomic.proofs.Goings.{calling_then, held_stays}
 use Rattle.big_atomic.proofs.Pacing.{paces_then}
 use Rattle.big_atomic.proofs.Paid.{costs_then, costs_within, exchanges-append, scan_loads-append}
 use Rattle.big_atomic.proofs.Scanning.{holding_stays, own_words, own_words_later, scan_all, scan_few, scan_goes, scan_lost, scan_paced, scan_seen, scan_tried, scan_view, scanned_now}
-use Rattle.big_atomic.specs.Calling.{Calling, Costs, Goes, HasRoom}
+use Rattle.big_atomic.specs.Calling.{Calling, Costs, Goes, HasReady, HasRoom}
 use Rattle.big_atomic.specs.Calls.{IsFullAnswer}
 use Rattle.big_atomic.specs.Giving.{Begun, HasDecided, HasTold, OnlyLooked, Past}
 use Rattle.big_atomic.specs.Ready.{IsReady}
@@ -48,10 +48,16 @@ hold_word {before = before} {now = now} ready sound goes hold = ⊎_elim
 -- a call that is to change its register scanned in its first turn, and has no free node, of which it needs one
 pub record IsShort {shared : ObjectData} {reg : ℕ} {new : List ℕ} {done : Reply} {call : Call} (b : Begun shared reg new done call) (version word : ℕ)
     (rec : List ℕ) (u w : SeatData) : Type 0 where
-  pub decided : HasDecided b version word rec u
+  pub decided : HasDecided b version word rec None u
   pub other : is_same rec new ≡ false
   pub room : HasRoom false u w
   pub law : IsSeat w
+
+-- so where no node came to be held
+pub short_of : {shared : ObjectData} {reg : ℕ} {new : List ℕ} {done : Reply} {call : Call} {b : Begun shared reg new done call} {version word : ℕ} {rec : List ℕ} {u w : SeatData}
+    (kept : Option ℕ) → HasDecided b version word rec kept u → is_same rec new ≡ false → HasReady kept None new u w → IsSeat w → IsShort b version word rec u w
+short_of None d other room law = record { decided = d; other = other; room = room; law = law }
+short_of (Some node) d other kept law = absurd cc
 
 module _ {shared : ObjectData} {reg : ℕ} {new : List ℕ} {done : Reply} {call : Call} {b : Begun shared reg new done call} {version word : ℕ} {rec : List ℕ} {u w : SeatData}
     (s : IsShort b version word rec u w) where
@@ -91,7 +97,7 @@ module _ {shared : ObjectData} {reg : ℕ} {new : List ℕ} {done : Reply} {call
   has_scanned = scanned_now scan p.law s.law p.steps words
 
   idle_now : w.holding ≡ []
-  idle_now = ap (λ (z : SeatData). z.holding) scan.same ∙ p.idle
+  idle_now = ap (λ (z : SeatData). z.holding) scan.same ∙ s.decided.carried
 
   -- all the seat's nodes are retired, and no more are than there are claim words
   few_nodes : stock w.view ≤ 4 * w.view.plan.seats
@@ -200,7 +206,7 @@ module _ {shared : ObjectData} {reg : ℕ} {new : List ℕ} {done : Reply} {call
         ready = e.ready;
         scans = inr (
           ap scan_loads a.steps_are ∙ omega (arith, scan_loads-append (p.steps ++ scan_steps) clear, scan_loads-append p.steps scan_steps, scan_all scan p.law s.law),
-          omega (arith, ap (length {A = ℕ}) first.free, ap (length {A = ℕ}) scanned.0),
+          let nodes = first.nodes in omega (arith, ap (length {A = ℕ}) scanned.0, ap (length {A = ℕ}) s.decided.carried),
           inl refl,
         );
         full = λ need free same. (

@@ -18,7 +18,7 @@ use Rattle.step_rules.specs.Bags.{IsWithout}
 use Rattle.step_rules.specs.Claims.{BACK, HOLD, On}
 use Rattle.step_rules.specs.History.{GoesOn, NoneOn}
 use Rattle.step_rules.specs.Kinds.Standing.{first_look}
-use Rattle.step_rules.specs.SeatData.{ObjectData, SeatData}
+use Rattle.step_rules.specs.SeatData.{IsSeat, ObjectData, SeatData}
 use Rattle.step_rules.specs.Sound.{Sound}
 use Rattle.step_rules.specs.Steps.{OnlyStepped, Won, stepped}
 use Rattle.step_rules.specs.Views.{claim_of, counted, look_at, number, stock, words_in}
@@ -190,6 +190,12 @@ pub record HoldsFilled (node : ℕ) (rec : List ℕ) (before now : SeatData) : T
   pub words : words_in now.view.own node ≡ rec ++ 0 ∷ []
   pub view : now.view ≡ record before.view { own = now.view.own; trail = now.view.trail }
   pub noted : now.noted ≡ before.noted
+
+-- a held node has the record: the one kept, or one that was free, after a scan where none was; or none is free
+abbrev pub HasReady : Option ℕ → Option ℕ → List ℕ → SeatData → SeatData → Type 0
+HasReady (Some kept) node rec before now = (node ≡ Some kept) × (now ≡ before)
+HasReady None (Some node) rec before now = (room : SeatData) × HasRoom true before room × IsSeat room × HoldsFilled node rec room now
+HasReady None None rec before now = HasRoom false before now
 
 -- the exchange found the same node with another mark once, or wasn't tried yet
 pub record HasRetried (reg : ℕ) (tries : List Counted) (before mid : SeatData) : Type 0 where

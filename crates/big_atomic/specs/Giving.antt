@@ -1,5 +1,5 @@
 -- A call that gives a register a record: what it began with, and what is known at each stage of it.
-use Rattle.std.specs.Prelude.{◌≡◌, ℕ, ◌*◌, ◌+◌, ◌<◌, ◌≤◌, Bool, true, false, not, List, [], ◌∷◌, Option, length, drop, ◌⊎◌}
+use Rattle.std.specs.Prelude.{◌≡◌, ℕ, ◌*◌, ◌+◌, ◌<◌, ◌≤◌, Bool, true, false, not, List, [], ◌∷◌, ◌++◌, Option, Some, None, length, drop, ◌⊎◌}
 use Rattle.big_atomic.specs.Calling.{AreLooks, Began, Calling, Costs, HasClaim, Paces}
 use Rattle.big_atomic.specs.Calls.{Answered, HoldStays, IsFullAnswer, ScansForWant, register_at}
 use Rattle.big_atomic.specs.Marks.{HasTurn}
@@ -21,7 +21,7 @@ use Rattle.step_rules.specs.History.{IsThere, IsWide, NoneOn, cell_of}
 use Rattle.step_rules.specs.Lawful.{IsReply}
 use Rattle.step_rules.specs.Records.{edit_of, is_change_in, removes_of, set}
 use Rattle.step_rules.specs.SeatData.{IsSeat, ObjectData, SeatData}
-use Rattle.step_rules.specs.Views.{claim_of, stock}
+use Rattle.step_rules.specs.Views.{claim_of, stock, words_in}
 use Rattle.step_rules.specs.declared.layout.TheConstants.{NODE_WIDTH}
 use Rattle.step_rules.specs.declared.plan.Plan.{Plan}
 use Rattle.step_rules.specs.declared.view.Counted.{Counted}
@@ -59,8 +59,8 @@ pub record IsOnce {shared : ObjectData} {reg : ℕ} {new : List ℕ} {done : Rep
   pub look_is : b.look ≡ look
   pub once : b.once ≡ true
 
--- what it did so far: it holds no node, and of its claims Back alone may stand beside Hold; one serves its turn. A scan was made only where no
--- node was free, and where it tries once it lost so many exchanges and made at most so many steps
+-- what it did so far: of its claims Back alone may stand beside Hold; one serves its turn. A scan was made only where no node was free, and where
+-- it tries once it lost so many exchanges and made at most so many steps
 pub record Past {shared : ObjectData} {reg : ℕ} {new : List ℕ} {done : Reply} {call : Call} (b : Begun shared reg new done call) (lost most : ℕ) (now : SeatData) : Type 0 where
   pub steps : List Counted
   pub calling : Calling reg steps b.look b.before now
@@ -68,41 +68,53 @@ pub record Past {shared : ObjectData} {reg : ℕ} {new : List ℕ} {done : Reply
   pub scans : (scan_loads steps ≡ 0) ⊎ ((scan_loads steps ≡ 4 * b.before.view.plan.seats) × (length b.before.free < 1))
   pub walk : (claim_of WALK now.view).word ≡ 0
   pub own : (claim_of OWN now.view).word ≡ 0
-  pub idle : now.holding ≡ []
   pub law : IsSeat now
   pub never : ((c : Contents) → is_change c call ≡ false) → exchanges steps ≡ 0
   pub spent : b.once ≡ true → Costs lost (2 * lost) most steps
 
--- nothing but looks and loads was made, and the nodes are those that the seat had
+-- nothing but looks and loads was made, and the nodes are as many as the seat had
 pub record OnlyLooked (steps : List Counted) (before now : SeatData) : Type 0 where
   pub looks : AreLooks steps
-  pub free : now.free ≡ before.free
+  pub nodes : length now.free + length now.holding ≡ length before.free
   pub retired : now.view.retired ≡ before.view.retired
 
--- a turn's first half: nothing but looks was made yet, or an exchange was tried, and a node is free
+-- a turn's first half: nothing but looks was made yet, or an exchange was tried, and a node is free or held
 pub record AtTurn {shared : ObjectData} {reg : ℕ} {new : List ℕ} {done : Reply} {call : Call} (b : Begun shared reg new done call) (lost most : ℕ) (now : SeatData) : Type 0 where
   pub past : Past b lost most now
-  pub turn : OnlyLooked past.steps b.before now ⊎ ((0 < exchanges past.steps) × (0 < length now.free))
+  pub turn : OnlyLooked past.steps b.before now ⊎ ((0 < exchanges past.steps) × (0 < length now.free + length now.holding))
+
+-- the seat holds this node alone, which has the record
+pub record HoldsNode (node : ℕ) (rec : List ℕ) (now : SeatData) : Type 0 where
+  pub holding : now.holding ≡ node ∷ []
+  pub words : words_in now.view.own node ≡ rec ++ 0 ∷ []
+
+-- it holds the node that a lost turn left, or none
+abbrev pub Carries : Option ℕ → List ℕ → SeatData → Type 0
+Carries None rec now = now.holding ≡ []
+Carries (Some node) rec now = HoldsNode node rec now
 
 -- the version was found, and then the node of the word was claimed
 pub record HasClaimedNode {shared : ObjectData} {reg : ℕ} {new : List ℕ} {done : Reply} {call : Call} (b : Begun shared reg new done call)
     (version word : ℕ) (now : SeatData) : Type 0 where
   pub at : AtTurn b 0 4 now
+  pub idle : now.holding ≡ []
   pub turn : HasTurn reg version word at.past.steps
   pub claim : HasClaim BACK reg word now
 
--- and has the record, by which the call is to be decided
+-- and has the record, by which the call is to be decided; a node may be kept from a lost turn
 pub record HasDecided {shared : ObjectData} {reg : ℕ} {new : List ℕ} {done : Reply} {call : Call} (b : Begun shared reg new done call) (version word : ℕ)
-    (rec : List ℕ) (now : SeatData) : Type 0 where
+    (rec : List ℕ) (kept : Option ℕ) (now : SeatData) : Type 0 where
   pub at : AtTurn b 0 (WIDTH + 5) now
+  pub carried : Carries kept new now
   pub turn : HasTurn reg version word at.past.steps
   pub claim : HasClaim BACK reg word now
   pub there : register_at now.view (length now.view.seen) reg ≡ rec
   pub agrees : Agrees reg rec new done call
 
--- its exchange was lost, and no claim serves any more: others changed the register since so much was seen, and its node is free again
-pub record HasLostTurn {shared : ObjectData} {reg : ℕ} {new : List ℕ} {done : Reply} {call : Call} (b : Begun shared reg new done call) (seen : ℕ) (now : SeatData) : Type 0 where
+-- its exchange was lost, and no claim serves any more: others changed the register since so much was seen, and its node is still held
+pub record HasLostTurn {shared : ObjectData} {reg : ℕ} {new : List ℕ} {done : Reply} {call : Call} (b : Begun shared reg new done call) (seen node : ℕ) (now : SeatData) : Type 0 where
   pub at : AtTurn b 1 (2 * WIDTH + 13 + 4 * b.before.view.plan.seats) now
+  pub carried : HoldsNode node new now
   pub tried : 0 < exchanges at.past.steps
   pub paced : Paces 0 0 at.past.steps
   pub changes : ((c : Contents) → is_change c call ≡ false) → ⊥
@@ -120,6 +132,7 @@ pub record IsUnlike (reg : ℕ) (old : List ℕ) (from : ℕ) (v : View) : Type 
 -- it is to be answered No: the register was another record than old at some place since its first look
 pub record HasOther {shared : ObjectData} {reg : ℕ} {new : List ℕ} {done : Reply} {call : Call} (b : Begun shared reg new done call) (old : List ℕ) (now : SeatData) : Type 0 where
   pub at : AtTurn b 1 (2 * WIDTH + 13 + 4 * b.before.view.plan.seats) now
+  pub idle : now.holding ≡ []
   pub unlike : IsUnlike reg old b.look now.view
 
 -- it is answered so
@@ -136,16 +149,16 @@ pub record HasTold {shared : ObjectData} {reg : ℕ} {new : List ℕ} {done : Re
 -- how far a call has come
 pub data Stage : Type 0 where
   Claimed : ℕ → ℕ → Stage
-  Decided : ℕ → ℕ → List ℕ → Stage
-  Lost : ℕ → Stage
+  Decided : ℕ → ℕ → List ℕ → Option ℕ → Stage
+  Lost : ℕ → ℕ → Stage
   Unlike : List ℕ → Stage
   Told : Reply → Stage
 
 -- what is known there
 abbrev pub Knows : {shared : ObjectData} {reg : ℕ} {new : List ℕ} {done : Reply} {call : Call} → Begun shared reg new done call → Stage → SeatData → Type 0
 Knows b (Claimed version word) now = HasClaimedNode b version word now
-Knows b (Decided version word rec) now = HasDecided b version word rec now
-Knows b (Lost seen) now = HasLostTurn b seen now
+Knows b (Decided version word rec kept) now = HasDecided b version word rec kept now
+Knows b (Lost seen node) now = HasLostTurn b seen node now
 Knows b (Unlike old) now = HasOther b old now
 Knows b (Told reply) now = HasTold b reply now
 
@@ -153,4 +166,4 @@ Knows b (Told reply) now = HasTold b reply now
 abbrev pub stage_of : Reply → Answer → ℕ → Stage
 stage_of reply GivenDone seen = Told reply
 stage_of reply GivenFull seen = Told (Full 1 0)
-stage_of reply GivenMoved seen = Lost seen
+stage_of reply (GivenMoved node) seen = Lost seen node

@@ -55,6 +55,20 @@ pub record HasInstalled (cell version seen node : ℕ) (call : Call) (before aft
   pub marked : TriesMark cell node version exchanged refreshed
   pub ends : after ≡ stepped (cleared_view OWN refreshed.view) refreshed
 
+-- the node was announced, the exchange found a word with another node, and the Own claim was ended: the held nodes stay
+pub record HasMissed (cell seen node word : ℕ) (before after : SeatData) : Type 0 where
+  pub announced : SeatData
+  pub exchanged : SeatData
+  pub announces : IsAnnounced Own node before announced
+  pub sound : Sound announced.view
+  pub lost : HasLost cell seen word announced exchanged
+  pub ends : after ≡ stepped (cleared_view OWN exchanged.view) exchanged
+
+-- an install that keeps the held nodes where the exchange found another node
+abbrev pub InstallTried : ℕ → ℕ → ℕ → ℕ → Call → Answer → SeatData → SeatData → Type 0
+InstallTried cell version seen node call Installed before after = HasInstalled cell version seen node call before after
+InstallTried cell version seen node call (Moved word) before after = HasMissed cell seen node word before after
+
 -- the node was announced, the exchange found a word with another node, and the Own claim was ended; every node that was held is free again
 pub record HasMoved (cell seen node word : ℕ) (before after : SeatData) : Type 0 where
   pub announced : SeatData

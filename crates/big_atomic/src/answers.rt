@@ -49,6 +49,6 @@ pub(crate) enum Given {
     Done,
     /// The register stays, since no node is free.
     Full,
-    /// Another caller's change came before.
-    Moved,
+    /// Another caller's change came before. This node is still held, and has the record.
+    Moved(u32),
 }

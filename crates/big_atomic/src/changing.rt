@@ -1,6 +1,6 @@
 //! What calls that change a register have in common.
 ghost use Rattle.std.specs.Prelude.{◌≡◌, ◌<◌, length};
-ghost use Rattle.big_atomic.specs.Calling.{HasRoom, HoldsFilled};
+ghost use Rattle.big_atomic.specs.Calling.{HasReady, HasRoom, HoldsFilled};
 ghost use Rattle.big_atomic.specs.Installing.{Exchanged, HasNear};
 ghost use Rattle.step_rules.specs.Claims.{OWN};
 ghost use Rattle.step_rules.specs.Kinds.Backup.{MayExchange};
@@ -16,7 +16,7 @@ use seat_history::{Call, Rec};
 use step_rules::{Seat, Shared, backup_exchange};
 
 /// Scans where no node is free, and answers whether one is.
-pub(crate) fn make_room(shared: &Shared, seat: &mut Seat) -> bool
+fn make_room(shared: &Shared, seat: &mut Seat) -> bool
     requires ours { IsOf shared.now seat.old }
     requires law { IsSeat seat.old }
     ensures room { HasRoom result seat.old seat.new }
@@ -29,8 +29,31 @@ pub(crate) fn make_room(shared: &Shared, seat: &mut Seat) -> bool
     seat.free() > 0
 }
 
+/// A held node that has the record: the one kept, or else a free one that is taken and filled. None
+/// comes where none is kept, and none is free after a scan.
+pub(crate) fn ready_node(
+    shared: &Shared,
+    seat: &mut Seat,
+    kept: Option<u32>,
+    rec: Rec,
+) -> Option<u32>
+    requires ours { IsOf shared.now seat.old }
+    requires own { (claim_of OWN seat.old.view).word ≡ 0 }
+    requires law { IsSeat seat.old }
+    ensures ready { HasReady kept result rec seat.old seat.new }
+    ensures law { IsSeat seat.new }
+{
+    if kept.is_some() {
+        return kept;
+    }
+    if !make_room(shared, seat) {
+        return None;
+    }
+    Some(fill_node(shared, seat, rec))
+}
+
 /// Takes a free node and fills it with the record.
-pub(crate) fn fill_node(shared: &Shared, seat: &mut Seat, rec: Rec) -> u32
+fn fill_node(shared: &Shared, seat: &mut Seat, rec: Rec) -> u32
     requires ours { IsOf shared.now seat.old }
     requires free { 0 < length seat.old.free }
     requires own { (claim_of OWN seat.old.view).word ≡ 0 }

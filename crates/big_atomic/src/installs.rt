@@ -1,6 +1,6 @@
 //! The last part of a change of any cell.
 ghost use Rattle.std.specs.Prelude.{◌≢◌};
-ghost use Rattle.big_atomic.specs.Installing.{HasNear, Installs, MayInstall};
+ghost use Rattle.big_atomic.specs.Installing.{HasNear, InstallTried, Installs, MayInstall};
 ghost use Rattle.big_atomic.specs.Marks.{HasBegun};
 ghost use Rattle.step_rules.specs.SeatData.{IsOf, IsSeat};
 ghost use Rattle.step_rules.specs.Steps.{DropsNoted, HoldsFront};
@@ -39,6 +39,34 @@ pub fn install(
     ensures installs { Installs cell version seen node call result seat.old seat.new }
     ensures law { IsSeat seat.new }
 {
+    let answer = try_install(shared, seat, cell, version, seen, node, call);
+    let Install::Moved(word) = answer else {
+        return Install::Installed;
+    };
+    put_back_all(shared, seat);
+    Install::Moved(word)
+}
+
+/// As `install`, but where another node was found the held ones stay held, with their words.
+pub(crate) fn try_install(
+    shared: &Shared,
+    seat: &mut Seat,
+    cell: u32,
+    version: u64,
+    seen: u64,
+    node: u32,
+    call: Call,
+) -> Install
+    requires ours { IsOf shared.now seat.old }
+    requires may { MayInstall cell seen node call seat.old.view }
+    requires front { HoldsFront node call seat.old }
+    requires noted { DropsNoted call seat.old }
+    requires found { HasNear cell seen seat.old.view }
+    requires begun { HasBegun cell version seen seat.old.view }
+    requires unlocked { seat.old.view.writer.stage ≢ Locked }
+    ensures tried { InstallTried cell version seen node call result seat.old seat.new }
+    ensures law { IsSeat seat.new }
+{
     announce(shared, seat, Claim::Own, node);
     let answer = exchange(shared, seat, cell, seen, node, call);
     let Install::Moved(word) = answer else {
@@ -47,6 +75,5 @@ pub fn install(
         return Install::Installed;
     };
     release(shared, seat, Claim::Own);
-    put_back_all(shared, seat);
     Install::Moved(word)
 }

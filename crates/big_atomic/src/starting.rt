@@ -1,5 +1,5 @@
 //! How a change of a cell begins its turns.
-ghost use Rattle.std.specs.Prelude.{◌<◌};
+ghost use Rattle.std.specs.Prelude.{◌≡◌, ◌<◌};
 ghost use Rattle.big_atomic.specs.Calling.{HasStarted, HasStartedRecord};
 ghost use Rattle.step_rules.specs.Layout.{cells};
 ghost use Rattle.step_rules.specs.SeatData.{IsOf, IsSeat};
@@ -18,12 +18,14 @@ pub struct Start {
     pub word: u64,
 }
 
-/// A turn of a change of a register: its start, and the record of the claimed node.
+/// A turn of a change of a register: its start, the record of the claimed node, and the filled node that
+/// a lost turn left.
 #[derive(Clone, Copy, Drop)]
 pub(crate) struct Turn {
     pub(crate) version: u64,
     pub(crate) word: u64,
     pub(crate) rec: Rec,
+    pub(crate) kept: Option<u32>,
 }
 
 /// Finds the version of a cell, and claims the node that it names then. Each further turn has a change
@@ -57,15 +59,21 @@ pub fn claim_versioned(shared: &Shared, seat: &mut Seat, cell: u32) -> Start
 }
 
 /// Begins a turn of a change of a register, and reads its record.
-pub(crate) fn begin_turn(shared: &Shared, seat: &mut Seat, reg: u32) -> Turn
+pub(crate) fn begin_turn(shared: &Shared, seat: &mut Seat, reg: u32, kept: Option<u32>) -> Turn
     requires ours { IsOf shared.now seat.old }
     requires there { reg < shared.now.plan.registers }
     ensures started { HasStartedRecord reg result.version result.word result.rec seat.old seat.new }
+    ensures kept { result.kept ≡ kept }
     ensures law { IsSeat seat.new }
 {
     let start = claim_versioned(shared, seat, reg);
     let rec = read_record(shared, seat, (start.word / 2) as u32);
     let version = start.version;
     let word = start.word;
-    Turn { version, word, rec }
+    Turn {
+        version,
+        word,
+        rec,
+        kept,
+    }
 }

@@ -12,6 +12,7 @@ use crate::gives::give;
 use crate::starting::{Start, Turn};
 use cache_copy::begin;
 use hazard_claims::{Claim, Recheck, release};
+use node_pool::put_back_all;
 use seat_history::{Call, Rec, Reply};
 use std::marker::Brand;
 use step_rules::{Place, Seat, Shared};
@@ -62,12 +63,14 @@ fn swap_claimed<P: Place>(
         version: start.version,
         word: start.word,
         rec,
+        kept: None,
     };
     let call = Call::Swap { reg, old, new };
     match give(shared, seat, reg, turn, new, call, Reply::Yes) {
         Given::Done => Swap::Yes,
         Given::Full => Swap::Full { need: 1, free: 0 },
-        Given::Moved => {
+        Given::Moved(_) => {
+            put_back_all(shared, seat);
             refuse::<P>(shared, seat, reg, old, new);
             Swap::No
         }

@@ -7,7 +7,7 @@ use Rattle.big_atomic.proofs.stores.store.Given as goal
 -- the register's version was found, its node is claimed, and its record read
 abbrev pub invariant-turns : goal.invariant-turns
 invariant-turns l = (b : Begun l.shared l.fn.reg l.fn.new Done (Store l.fn.reg l.fn.new)) × (b.before ≡ l.fn.seat) × (b.once ≡ false)
-    × Knows b (Decided l.turn.version l.turn.word l.turn.rec) l.seat
+    × Knows b (Decided l.turn.version l.turn.word l.turn.rec l.turn.kept) l.seat
 
 abbrev pub decreases-turns : goal.decreases-turns
 decreases-turns l = l.seat.view.plan.seats * l.seat.view.plan.changes - length l.seat.view.seen

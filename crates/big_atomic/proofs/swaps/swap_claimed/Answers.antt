@@ -1,7 +1,8 @@
 use Rattle.std.proofs.Common.{◌≡◌, ◌∙◌, ◌/◌, ℕ, List, not, false, sym, arith}
 use Rattle.std.proofs.lemmas.Bool.{not-false, not-true}
 use Rattle.big_atomic.proofs.Claimed.{may_load, node_fits}
-use Rattle.big_atomic.proofs.Deciding.{decided, past_ours, read_at, read_there, swap_agrees, swapped}
+use Rattle.big_atomic.proofs.Deciding.{decided, past_ours, read_at, read_idle, read_there, swap_agrees, swapped}
+use Rattle.big_atomic.proofs.PuttingBack.{none_announced}
 use Rattle.big_atomic.proofs.Refusing.{lost_unlike, read_unlike}
 use Rattle.big_atomic.specs.declared.answers.Swap.TheVariants.{Full as SwapFull, Yes as SwapYes}
 use Rattle.seat_history.proofs.Changed.{words_from_same}
@@ -29,7 +30,7 @@ refuse-requires g c =
       past = (
         c.requires.past.0,
         c.requires.past.1,
-        read_unlike (read_at h r law) (omega arith) (omega arith) (read_there h r law) (not-true (is_same c.read_record-rec.result c.args.old) (sym c.ne.ensures ∙ c.if-ne.true)),
+        read_unlike (read_at h r law) (omega arith) (omega arith) (read_idle h r law) (read_there h r law) (not-true (is_same c.read_record-rec.result c.args.old) (sym c.ne.ensures ∙ c.if-ne.true)),
       );
     }
 
@@ -39,7 +40,7 @@ returns-then-ne g c = record {
       let r = c.read_record-rec.ensures.read in
       let law = c.read_record-rec.ensures.law in
       c.refuse.ensures.ends b once
-      (read_unlike (read_at h r law) (omega arith) (omega arith) (read_there h r law) (not-true (is_same c.read_record-rec.result c.args.old) (sym c.ne.ensures ∙ c.if-ne.true)));
+      (read_unlike (read_at h r law) (omega arith) (omega arith) (read_idle h r law) (read_there h r law) (not-true (is_same c.read_record-rec.result c.args.old) (sym c.ne.ensures ∙ c.if-ne.true)));
 }
 
 -- the old record is there
@@ -70,15 +71,22 @@ returns-in-Full g c = record {
 }
 
 -- another caller's change came before
+pub put_back_all-requires : goal.put_back_all-requires
+put_back_all-requires g c =
+    let agrees = swap_agrees c.args.reg c.read_record-rec.result c.args.old c.args.new (was_old c.read_record-rec.result c.args.old (sym c.ne.ensures ∙ c.if-ne.false)) in
+    let l = c.in-Moved.ensures.given c.requires.past.0 (decided c.requires.past.2 c.read_record-rec.ensures.read c.read_record-rec.ensures.law agrees) in
+    record { ours = past_ours l.at.past; unannounced = none_announced c.give.new.seat.holding c.give.new.seat.view l.at.past.own }
+
 pub refuse-requires-in-Moved : goal.refuse-requires-in-Moved
 refuse-requires-in-Moved g c =
     let agrees = swap_agrees c.args.reg c.read_record-rec.result c.args.old c.args.new (was_old c.read_record-rec.result c.args.old (sym c.ne.ensures ∙ c.if-ne.false)) in
     let l = c.in-Moved.ensures.given c.requires.past.0 (decided c.requires.past.2 c.read_record-rec.ensures.read c.read_record-rec.ensures.law agrees) in
-    record { past = (c.requires.past.0, c.requires.past.1, lost_unlike l) }
+    record { past = (c.requires.past.0, c.requires.past.1, lost_unlike l c.put_back_all.ensures.free c.put_back_all.ensures.law) }
 
 pub returns-in-Moved : goal.returns-in-Moved
 returns-in-Moved g c = record {
   ends = λ b once h.
       let agrees = swap_agrees c.args.reg c.read_record-rec.result c.args.old c.args.new (was_old c.read_record-rec.result c.args.old (sym c.ne.ensures ∙ c.if-ne.false)) in
-      c.refuse-in-Moved.ensures.ends b once (lost_unlike (c.in-Moved.ensures.given b (decided h c.read_record-rec.ensures.read c.read_record-rec.ensures.law agrees)));
+      let l = c.in-Moved.ensures.given b (decided h c.read_record-rec.ensures.read c.read_record-rec.ensures.law agrees) in
+      c.refuse-in-Moved.ensures.ends b once (lost_unlike l c.put_back_all.ensures.free c.put_back_all.ensures.law);
 }
