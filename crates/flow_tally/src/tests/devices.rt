@@ -68,8 +68,8 @@ fn device(
     Ok(())
 }
 
-/// Two files, the first of which is given: each call of the feed from one on, and up to another,
-/// fails in turn, and the run ends so.
+/// Tallies `a` and the one datagram as `b`: each call of the feed from the first number up to the
+/// second fails in turn, and each run must end so.
 fn failing_calls(
     rt: &(impl Abort + Alloc<A = Global> + Threads + Sync),
     a: Part,
