@@ -6,6 +6,7 @@ ghost use Rattle.step_rules.specs.Layout.{IsPlan};
 ghost use Rattle.step_rules.specs.SeatData.{IsOf};
 
 mod copies;
+mod dropped;
 mod readers;
 mod small_shares;
 mod threads;

@@ -9,12 +9,19 @@ use std::test::Fail;
 use step_rules::{NODE_WIDTH, Seat, Shared};
 
 // What a read of the first register's inline words answers.
-fn copy_of(rt: &impl Abort, shared: &Shared, seat: &mut Seat) -> Inline
+pub(crate) fn copy_of(rt: &impl Abort, shared: &Shared, seat: &mut Seat) -> Inline
     requires ours { IsOf shared.now seat.old }
     ensures ours { IsOf shared.now seat.new }
 {
     assert!(rt; 0 < shared.plan().registers);
     read_inline(shared, seat, 0)
+}
+
+// The record of a number as a node's words.
+pub(crate) fn node_of(number: u64) -> [u64; NODE_WIDTH] {
+    let mut words = [0; NODE_WIDTH];
+    words[0] = number;
+    words
 }
 
 #[test]
@@ -25,9 +32,7 @@ fn changes_that_meet_no_other_leave_good_copies(rt: HostRuntime) -> Result<(), F
     play(&rt, &shared, &mut first, &rows);
     play(&rt, &shared, &mut second, &[(swap(2, 3), Reply::Yes)]);
     let copy = copy_of(&rt, &shared, &mut first);
-    let mut words = [0; NODE_WIDTH];
-    words[0] = 3;
-    assert_eq!(rt; copy, Inline::Words(words));
+    assert_eq!(rt; copy, Inline::Words(node_of(3)));
     // So this load makes no claim.
     play(&rt, &shared, &mut second, &[(LOAD, Reply::Words(rec(3)))]);
     Ok(())
