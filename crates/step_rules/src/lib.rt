@@ -2,6 +2,7 @@
 //! of a seat keeps it, and what a seat knows by it is what the calls above promise.
 #![tactic(auto)]
 
+mod ahead;
 mod bucket;
 mod closed;
 mod counts;
