@@ -10,6 +10,7 @@ mod holds;
 mod installs;
 mod laws;
 mod loads;
+mod reclaims;
 mod seats;
 mod starting;
 mod stores;
@@ -27,6 +28,7 @@ pub use laws::{
     register_counts,
 };
 pub use loads::load;
+pub use reclaims::reclaim;
 pub use seats::{join_all, split_all};
 pub use starting::{Start, claim_versioned};
 pub use stores::store;

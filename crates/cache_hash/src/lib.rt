@@ -1,6 +1,7 @@
 //! A hash table: a chain of records for each bucket.
 #![tactic(auto)]
 
+mod ahead;
 mod answers;
 mod asked;
 mod cells;
