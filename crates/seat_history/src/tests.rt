@@ -1,11 +1,25 @@
-use crate::{Call, KeyWords, Plain, Reply};
+use crate::{Call, KeyWords, Plain, Rec, Reply, VALUE_WIDTH, ValWords, WIDTH};
 use std::test::Fail;
+
+// A record that begins and ends with these words, and a value that begins with this one.
+fn rec(first: u64, last: u64) -> Rec {
+    let mut words = [0; WIDTH];
+    words[0] = first;
+    words[WIDTH - 1] = last;
+    words
+}
+
+fn val(first: u64) -> ValWords {
+    let mut words = [0; VALUE_WIDTH];
+    words[0] = first;
+    words
+}
 
 #[test]
 fn a_held_record_stays(rt: HostRuntime) -> Result<(), Fail> {
     let mut plain = Plain::new(rt.alloc(), 2)?;
-    let old = [7, 0, 1, 0, 0];
-    let new = [8, 0, 0, 0, 2];
+    let old = rec(7, 0);
+    let new = rec(8, 2);
     assert_eq!(rt;
         plain.call(0, Call::Store { reg: 1, new: old })?,
         Reply::Done
@@ -14,7 +28,7 @@ fn a_held_record_stays(rt: HostRuntime) -> Result<(), Fail> {
     assert_eq!(rt; plain.call(0, Call::Swap { reg: 1, old, new })?, Reply::Yes);
     assert_eq!(rt; plain.call(5, Call::Look)?, Reply::Words(old));
     assert_eq!(rt; plain.call(5, Call::Release)?, Reply::Done);
-    assert_eq!(rt; plain.register(0), [0; 5]);
+    assert_eq!(rt; plain.register(0), [0; WIDTH]);
     assert_eq!(rt; plain.register(1), new);
     Ok(())
 }
@@ -32,7 +46,7 @@ fn pairs_come_by_rising_key(rt: HostRuntime) -> Result<(), Fail> {
             0,
             Call::Insert {
                 key: high,
-                val: [1, 0, 0]
+                val: val(1)
             }
         )?,
         Reply::Done
@@ -42,7 +56,7 @@ fn pairs_come_by_rising_key(rt: HostRuntime) -> Result<(), Fail> {
             0,
             Call::Insert {
                 key: low,
-                val: [2, 0, 0]
+                val: val(2)
             }
         )?,
         Reply::Done
@@ -52,15 +66,15 @@ fn pairs_come_by_rising_key(rt: HostRuntime) -> Result<(), Fail> {
             0,
             Call::Insert {
                 key: low,
-                val: [3, 0, 0]
+                val: val(3)
             }
         )?,
-        Reply::Present([2, 0, 0])
+        Reply::Present(val(2))
     );
     let pairs = plain.pairs(rt.alloc())?;
     assert_eq!(rt;
         pairs.as_slice(),
-        [(low, [2, 0, 0]), (high, [1, 0, 0])].as_slice()
+        [(low, val(2)), (high, val(1))].as_slice()
     );
     Ok(())
 }

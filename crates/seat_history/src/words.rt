@@ -1,5 +1,5 @@
 /// How many words a record has.
-pub const WIDTH: usize = 5;
+pub const WIDTH: usize = 7;
 
 /// How many words a value has. A record in a bucket is a key's two words and then its value's.
 pub const VALUE_WIDTH: usize = WIDTH - 2;

@@ -1,6 +1,6 @@
 //! Values from outside: the buckets of keys, and an object that nobody has changed.
 use crate::{Counts, Plan, bucket_index, build};
-use seat_history::KeyWords;
+use seat_history::{KeyWords, WIDTH};
 use std::test::Fail;
 
 #[test]
@@ -29,7 +29,7 @@ fn a_new_object_is_empty(rt: HostRuntime) -> Result<(), Fail> {
         9
     );
     let closed = shared.close(seat);
-    assert_eq!(rt; closed.register(1), [0; 5]);
+    assert_eq!(rt; closed.register(1), [0; WIDTH]);
     assert!(rt; closed.pairs(rt.alloc())?.as_slice().is_empty());
     assert_eq!(rt;
         closed.counts(),
