@@ -28,7 +28,7 @@ fn printed(alloc: Global, script: &str, free: u32, live: u32) -> Result<Vec<u8>,
 }
 
 // Scripts with what they print.
-static GOOD: [(&str, &str); 6] = [
+static GOOD: [(&str, &str); 7] = [
     ("callers 1", ""),
     ("callers 64\n", ""),
     (
@@ -47,6 +47,10 @@ static GOOD: [(&str, &str); 6] = [
     (
         "callers 1\n0 insert 2 0\n0 insert 1,1 0,0,3\n0 insert 0 4\n",
         "done\ndone\ndone\nrecord 0 4\nrecord 1,1 0,0,3\nrecord 2 0\n",
+    ),
+    (
+        "callers 1\n0 store 0 1,2,3,4,5,6,7\n0 load 0\n0 insert 0,1 1,2,3,4,5\n0 replace 0,1 1,2,3,4,5 0,0,0,0,5\n",
+        "done\n1,2,3,4,5,6,7\ndone\nyes\nregister 0 1,2,3,4,5,6,7\nrecord 0,1 0,0,0,0,5\n",
     ),
 ];
 
@@ -125,10 +129,10 @@ static BAD: [(&str, u32, LineCause); 38] = [
     ("callers 1\nx load 16", 2, LineCause::Number),
     ("callers 1\n9 store 16 1,,2", 2, LineCause::Number),
     ("callers 1\n0 store 0 1,", 2, LineCause::Number),
-    ("callers 1\n0 store 0 1,2,3,4,5,6", 2, LineCause::Number),
+    ("callers 1\n0 store 0 1,2,3,4,5,6,7,8", 2, LineCause::Number),
     ("callers 1\n0 store 00 1", 2, LineCause::Number),
     ("callers 1\n0 find 1,2,3", 2, LineCause::Number),
-    ("callers 1\n0 insert 1 1,2,3,4", 2, LineCause::Number),
+    ("callers 1\n0 insert 1 1,2,3,4,5,6", 2, LineCause::Number),
     ("callers 1\n0 load 0\r", 2, LineCause::Number),
     ("callers 2\n2 load 0", 2, LineCause::Range),
     ("callers 1\n0 load 16", 2, LineCause::Range),
@@ -158,7 +162,7 @@ fn the_first_bad_line_decides_by_its_first_cause(rt: HostRuntime) -> Result<(), 
 fn one_line_too_many_comes_after_the_bad_ones(rt: HostRuntime) -> Result<(), Fail> {
     let mut script = String::from_str(rt.alloc(), "callers 1\n")?;
     for _ in 1..MOST_LINES {
-        script.push_str("0 swap 15 1,2,3,4,5 6,7,8,9,10\n")?;
+        script.push_str("0 swap 15 1,2,3,4,5,6,7 8,9,10,11,12,13,14\n")?;
     }
     let short = script.len();
     script.push_str("0 look\n0")?;

@@ -48,7 +48,7 @@ one_more values (Some t) v p o h = total_push values t v h
 -- with one value more there is a total
 pub some_total : (values : List Value) (at : Option Value) (v : Value) → TotalsTo values at → (total : Value) × IsTotal (values ++ v ∷ []) total
 some_total values None v h =
-    let total : Value = record { packets = v.packets % 2 ^ 64; octets = v.octets % 2 ^ 64; first = v.first; last = v.last } in
+    let total : Value = record v { packets = v.packets % 2 ^ 64; octets = v.octets % 2 ^ 64 } in
     (total, subst (λ (vs : List Value). IsTotal (vs ++ v ∷ []) total) (sym h) (total_alone v))
 some_total values (Some t) v h = (merge_of t v, total_push values t v h)
 

@@ -1,5 +1,7 @@
+pub mod Bits
 pub mod Filters
 pub mod Folds
+pub mod Pairs
 pub mod Rising
 pub mod SameKey
 pub mod SomeFold

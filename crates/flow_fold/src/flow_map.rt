@@ -30,8 +30,8 @@ pub fn add(flows: &mut BTreeMap<Key, Value>, key: Key, value: Value) -> Result<(
     Ok(())
 }
 
-/// For each key that occurs, the sums modulo 2^64, the least `first` and the greatest `last` of its
-/// pairs; no other key.
+/// For each key that occurs, the sums modulo 2^64, the least `first`, the greatest `last` and all
+/// flags of its pairs; no other key.
 pub fn fold(alloc: Global, pairs: &[(Key, Value)]) -> Result<BTreeMap<Key, Value>, NoMemory>
     ensures folds { IfOk result (λ flows. IsFold pairs.now (get key_cmp flows)) }
     ensures any_order { IfOk result (λ flows. (others : List (Key × Value))

@@ -4,6 +4,7 @@
 mod flow_list;
 mod flow_map;
 mod key;
+mod moment;
 mod value;
 
 pub use flow_list::{FlowList, flows_of};

@@ -15,9 +15,6 @@ IsPort n = n ≤ 65535
 abbrev pub IsAddress : ℕ → Type 0
 IsAddress n = n < 2 ^ 32
 
-abbrev pub IsTime : ℕ → Type 0
-IsTime n = n ≤ 4294967295
-
 abbrev pub IsCount : ℕ → Type 0
 IsCount n = n ≤ 18446744073709551615
 
@@ -64,8 +61,8 @@ ports_free = numbers_prefix_free space 65535 (omega arith) (omega arith)
 pub counts_free : IsPrefixFree (number_then space) IsCount
 counts_free = numbers_prefix_free space 18446744073709551615 (omega arith) (omega arith)
 
-pub times_free : (after : ℕ) → after < 48 → IsPrefixFree (number_then after) IsTime
-times_free after low = numbers_prefix_free after 4294967295 low (omega arith)
+pub last_counts_free : IsPrefixFree (number_then line_feed) IsCount
+last_counts_free = numbers_prefix_free line_feed 18446744073709551615 (omega arith) (omega arith)
 
 pub addresses_free : IsPrefixFree address_text IsAddress
 addresses_free =
@@ -141,34 +138,34 @@ keys_free =
     parts_prefix_free key_by_parts same_key (pairs_prefix_free addresses_free (pairs_prefix_free addresses_free (pairs_prefix_free ports_free (pairs_prefix_free ports_free
     (pairs_prefix_free bytes (pairs_prefix_free bytes ports_free))))))
 
--- the four numbers of a value
+-- the five numbers of a value
 abbrev pub ValueParts : Type 0
-ValueParts = ℕ × (ℕ × (ℕ × ℕ))
+ValueParts = ℕ × (ℕ × (ℕ × (ℕ × ℕ)))
 
 abbrev pub value_parts : Value → ValueParts
-value_parts v = (v.packets, (v.octets, (v.first, v.last)))
+value_parts v = (v.packets, (v.octets, (v.first, (v.last, v.flags))))
 
 abbrev pub value_fields : ValueParts → List ℕ
-value_fields = spelled_after (number_then space) (spelled_after (number_then space) (spelled_after (number_then space) (number_then line_feed)))
+value_fields = spelled_after (number_then space) (spelled_after (number_then space) (spelled_after (number_then space) (spelled_after (number_then space) (number_then line_feed))))
 
 abbrev pub AreValueParts : ValueParts → Type 0
-AreValueParts = BothIn IsCount (BothIn IsCount (BothIn IsTime IsTime))
+AreValueParts = BothIn IsCount (BothIn IsCount (BothIn IsCount (BothIn IsCount IsCount)))
 
 pub value_by_parts : IsSpelledBy value_text IsValueInRange value_parts value_fields AreValueParts
 unfolding value_text words_then spelled_after
 value_by_parts = record {
   spelled = λ v. simp append_assoc;
   in_range = λ v h.
-      let packets = h.packets in let octets = h.octets in let first = h.first in let last = h.last in
-      record { first = omega arith; second = record { first = omega arith; second = record { first = omega arith; second = omega arith } } };
+      let packets = h.packets in let octets = h.octets in let first = h.first in let last = h.last in let flags = h.flags in
+      record { first = omega arith; second = record { first = omega arith; second = record { first = omega arith; second = record { first = omega arith; second = omega arith } } } };
 }
 
 same_value : (x y : Value) → value_parts x ≡ value_parts y → x ≡ y
-same_value x y is = λ i. record { packets = (is i).0; octets = (is i).1.0; first = (is i).1.1.0; last = (is i).1.1.1 }
+same_value x y is = λ i. record { packets = (is i).0; octets = (is i).1.0; first = (is i).1.1.0; last = (is i).1.1.1.0; flags = (is i).1.1.1.1 }
 
 pub values_free : IsPrefixFree value_text IsValueInRange
 values_free = parts_prefix_free value_by_parts same_value (pairs_prefix_free counts_free (pairs_prefix_free counts_free
-    (pairs_prefix_free (times_free space (omega arith)) (times_free line_feed (omega arith)))))
+    (pairs_prefix_free counts_free (pairs_prefix_free counts_free last_counts_free))))
 
 abbrev pub flow_fields : Key × Value → List ℕ
 flow_fields = spelled_after key_text value_text

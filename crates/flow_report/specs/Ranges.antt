@@ -9,12 +9,13 @@ pub record IsKeyInRange (key : Key) : Type 0 where
   pub k0 : key.k0 < 2 ^ 64
   pub k1 : key.k1 < 2 ^ 64
 
--- packets and octets are below 2^64, first and last below 2^32
+-- packets, octets, first, last and flags are below 2^64
 pub record IsValueInRange (value : Value) : Type 0 where
   pub packets : value.packets < 2 ^ 64
   pub octets : value.octets < 2 ^ 64
-  pub first : value.first < 2 ^ 32
-  pub last : value.last < 2 ^ 32
+  pub first : value.first < 2 ^ 64
+  pub last : value.last < 2 ^ 64
+  pub flags : value.flags < 2 ^ 64
 
 -- the key and the value are in range
 abbrev pub IsFlowInRange : Key × Value → Type 0

@@ -43,9 +43,10 @@ key_text key = words_then space (
     ∷ decimal (key.k1 / 2 ^ 48) ∷ decimal (key.k1 / 2 ^ 32 % 2 ^ 16)
     ∷ decimal (key.k1 / 2 ^ 24 % 2 ^ 8) ∷ decimal (key.k1 / 2 ^ 16 % 2 ^ 8) ∷ decimal (key.k1 % 2 ^ 16) ∷ [])
 
--- packets, octets, first, last
+-- packets, octets, first, last, flags
 unfoldable pub value_text : Value → List ℕ
-value_text value = words_then line_feed (decimal value.packets ∷ decimal value.octets ∷ decimal value.first ∷ decimal value.last ∷ [])
+value_text value = words_then line_feed (
+    decimal value.packets ∷ decimal value.octets ∷ decimal value.first ∷ decimal value.last ∷ decimal value.flags ∷ [])
 
 -- the line of a flow
 unfoldable pub flow_line : Key × Value → List ℕ

@@ -53,13 +53,15 @@ fn read_value(text: &[u8]) -> Option<(Value, &[u8])>
 {
     let (packets, text) = read_number(text, u64::MAX, b' ')?;
     let (octets, text) = read_number(text, u64::MAX, b' ')?;
-    let (first, text) = read_number(text, u32::MAX as u64, b' ')?;
-    let (last, text) = read_number(text, u32::MAX as u64, b'\n')?;
+    let (first, text) = read_number(text, u64::MAX, b' ')?;
+    let (last, text) = read_number(text, u64::MAX, b' ')?;
+    let (flags, text) = read_number(text, u64::MAX, b'\n')?;
     let value = Value {
         packets,
         octets,
-        first: first as u32,
-        last: last as u32,
+        first,
+        last,
+        flags,
     };
     Some((value, text))
 }

@@ -21,13 +21,14 @@ pub(crate) const LAST_LINE_ROOM: usize = (5 + 7 + 6 + 7 + 9) + 20 + 2 * 39 + 2 *
 /// How many bytes the words of a value have, and the line's end.
 pub(crate) fn value_len(value: Value) -> usize
     ensures length { result ≡ length (value_text value) }
-    ensures short { result ≤ 84 }
+    ensures short { result ≤ 105 }
 {
     decimal_len(value.packets)
         + decimal_len(value.octets)
-        + decimal_len(u64::from(value.first))
-        + decimal_len(u64::from(value.last))
-        + 4
+        + decimal_len(value.first)
+        + decimal_len(value.last)
+        + decimal_len(value.flags)
+        + 5
 }
 
 /// A number and the byte after it.
@@ -73,8 +74,9 @@ fn add_value(text: &mut TextWriter, value: Value) -> Result<(), AllocError>
 {
     add_number(text, value.packets, b' ')?;
     add_number(text, value.octets, b' ')?;
-    add_number(text, u64::from(value.first), b' ')?;
-    add_number(text, u64::from(value.last), b'\n')?;
+    add_number(text, value.first, b' ')?;
+    add_number(text, value.last, b' ')?;
+    add_number(text, value.flags, b'\n')?;
     Ok(())
 }
 

@@ -13,9 +13,9 @@ use crate::totals::Totals;
 use flow_fold::{FlowList, Key, Value};
 use std::alloc::{AllocError, Global};
 
-/// The fewest bytes of a flow's line: two addresses of four digits and three dots, nine digits, ten
+/// The fewest bytes of a flow's line: two addresses of four digits and three dots, ten digits, eleven
 /// spaces and the line feed.
-const FLOW_LINE_LEAST: usize = 2 * (4 + 3) + 9 + 10 + 1;
+const FLOW_LINE_LEAST: usize = 2 * (4 + 3) + 10 + 11 + 1;
 
 /// What a report says.
 #[derive(Debug, Drop)]
