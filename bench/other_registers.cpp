@@ -8,7 +8,7 @@ constexpr const char *USAGE = "other_registers mutex|spin|seqlock|atomic [time] 
 
 template <class Registers> void run(const RegistersAsked &asked, const char *kind, bool timed) {
     Registers registers(asked.registers);
-    run_registers(asked, kind, timed, [&](uint32_t) { return CallerOfRegisters<Registers>(registers); });
+    work_beside_a_thread([&] { run_registers(asked, kind, timed, [&](uint32_t) { return CallerOfRegisters<Registers>(registers); }); });
 }
 
 int main(int argc, char **argv) {

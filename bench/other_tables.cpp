@@ -10,7 +10,7 @@ constexpr const char *USAGE = "other_tables sharded|tbb [time] THREADS BUCKETS K
 template <class Table> void run(const TableAsked &asked, const char *kind, bool timed) {
     Table table(asked.buckets);
     std::vector<CallerOfTable<Table>> callers(asked.threads, CallerOfTable<Table>(table));
-    run_table(asked, kind, timed, callers);
+    work_beside_a_thread([&] { run_table(asked, kind, timed, callers); });
 }
 
 int main(int argc, char **argv) {

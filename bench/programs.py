@@ -24,9 +24,20 @@ def compile_plain(folder: str, name: str, asked: argparse.Namespace, flags: tupl
     return program
 
 
-def proved_program(name: str) -> str:
-    """The proved program of this name, which `rt run` leaves in its crate."""
-    return str(TOP / f"crates/{name}/out/{name}")
+def compiles_tbb(folder: str, asked: argparse.Namespace) -> bool:
+    """Whether a program with TBB compiles."""
+    source = pathlib.Path(f"{folder}/tbb.cpp")
+    source.write_text("#include <tbb/concurrent_hash_map.h>\nint main() { tbb::concurrent_hash_map<int, int> map; return map.size(); }\n")
+    words = [asked.compiler, "-std=c++17", "-pthread", "-o", f"{folder}/tbb", str(source), "-ltbb"]
+    return subprocess.run(words, capture_output=True).returncode == 0
+
+
+def proved_program(name: str, top: pathlib.Path = TOP) -> str:
+    """The proved program of this name, which `rt run` leaves in its crate of a checkout."""
+    program = top / f"crates/{name}/out/{name}"
+    if not program.exists():
+        raise SystemExit(f"{program} isn't there: `rt run` in crates/{name} makes it")
+    return str(program)
 
 
 def told_by(command: list[str], words: list[str]) -> tuple[str, dict]:

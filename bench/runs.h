@@ -6,6 +6,7 @@
 #include <chrono>
 #include <cstdint>
 #include <cstdio>
+#include <future>
 #include <optional>
 #include <string_view>
 #include <thread>
@@ -82,6 +83,15 @@ template <class Work> std::pair<Ran, long long> run_threads(uint32_t count, cons
     Ran all{0, 0};
     for (const Ran &one : ran) all = {all.done + one.done, all.changes + one.changes};
     return {all, took.count()};
+}
+
+// Does the work in a process of several threads, as a user's is: in one of a single thread the C library's mutex takes no locked step.
+template <class Work> void work_beside_a_thread(const Work &work) {
+    std::promise<void> end;
+    std::thread waiting([&] { end.get_future().wait(); });
+    work();
+    end.set_value();
+    waiting.join();
 }
 
 // The words from one place on, but for `time`, which stands there where the time is wanted.

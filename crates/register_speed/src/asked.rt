@@ -12,6 +12,8 @@ pub(crate) enum Kind {
     Store,
     /// Loads and compare-and-swaps in turn.
     Mix,
+    /// Loads; each 20th call is a compare-and-swap.
+    Few,
 }
 
 /// What is to be done: so many calls by each seat of the plan's, on the registers that the numbers

@@ -10,13 +10,14 @@ use big_atomic::Plan;
 use speed_runs::{Words, print_counts, read_words, run};
 use std::io;
 
-const USAGE: &str = "register_speed [time] THREADS REGISTERS CALLS SHARE store|load|mix [FILE]";
+const USAGE: &str = "register_speed [time] THREADS REGISTERS CALLS SHARE store|load|mix|few [FILE]";
 
 fn read_kind(word: &str) -> Option<Kind> {
     match word {
         "load" => Some(Kind::Load),
         "store" => Some(Kind::Store),
         "mix" => Some(Kind::Mix),
+        "few" => Some(Kind::Few),
         _ => None,
     }
 }
@@ -26,6 +27,7 @@ fn word_of(kind: Kind) -> &'static str {
         Kind::Load => "load",
         Kind::Store => "store",
         Kind::Mix => "mix",
+        Kind::Few => "few",
     }
 }
 

@@ -15,7 +15,7 @@ pub(crate) enum Step {
     Swap,
 }
 
-/// What a thread's call i is. In a mix a compare-and-swap comes after each load.
+/// What a thread's call i is. In a mix a compare-and-swap comes after each load, and else after 19.
 pub(crate) fn step_of(kind: Kind, i: u32) -> Step
     ensures { result ≡ step_of kind i }
 {
@@ -24,6 +24,8 @@ pub(crate) fn step_of(kind: Kind, i: u32) -> Step
         Kind::Store => Step::Store,
         Kind::Mix if i % 2 == 0 => Step::Load,
         Kind::Mix => Step::Swap,
+        Kind::Few if i % 20 == 19 => Step::Swap,
+        Kind::Few => Step::Load,
     }
 }
 
@@ -36,12 +38,14 @@ pub(crate) fn register_of(asked: &Asked, thread: u32, i: u32) -> u32
     (number % u64::from(asked.plan.registers)) as u32
 }
 
-// How often the thread drew a register before its call i: a mix draws one for two calls.
+// How often the thread drew a register before its call i: a compare-and-swap draws none, but takes that of
+// the load before it.
 fn draw_of(kind: Kind, i: u32) -> u32
     ensures { result ≡ draw_of kind i }
 {
     match kind {
         Kind::Mix => i / 2,
+        Kind::Few => i - ((u64::from(i) + 1) / 20) as u32,
         _ => i,
     }
 }

@@ -2,7 +2,7 @@
 use Rattle.std.specs.Prelude.{◌≡◌, ◌+◌, ◌-◌, ◌/◌, ◌^◌, ◌<◌, ◌≤◌, ℕ, List, slice_index}
 use Rattle.step_rules.specs.declared.plan.Plan.{Plan}
 use Rattle.table_speed.specs.declared.asked.Kind.{Kind}
-use Rattle.table_speed.specs.declared.asked.Kind.TheVariants.{Find}
+use Rattle.table_speed.specs.declared.asked.Kind.TheVariants.{Find, Few}
 
 -- threads, buckets, keys, calls and share can be met
 pub record IsInRange (words : List ℕ) : Type 0 where
@@ -16,9 +16,10 @@ pub record IsInRange (words : List ℕ) : Type 0 where
 abbrev pub evens : ℕ → ℕ
 evens keys = (keys + 1) / 2
 
--- how many calls each thread makes before the timed ones: before finds the threads insert the even keys, as many each
+-- how many calls each thread makes before the timed ones: before finds, few changes among them or none, the threads insert the even keys, as many each
 abbrev pub filling_of : Kind → ℕ → ℕ → ℕ
 filling_of Find keys seats = (evens keys + seats - 1) / seats
+filling_of Few keys seats = (evens keys + seats - 1) / seats
 filling_of _ keys seats = 0
 
 -- the plan has what the words say, and changes for all calls; kind and numbers are those that were given

@@ -5,7 +5,7 @@ use Rattle.speed_runs.specs.Streams.{drawn}
 use Rattle.table_speed.specs.Asking.{evens}
 use Rattle.table_speed.specs.declared.asked.Asked.{Asked}
 use Rattle.table_speed.specs.declared.asked.Kind.{Kind}
-use Rattle.table_speed.specs.declared.asked.Kind.TheVariants.{Find as FindKind, Insert as InsertKind, Mix, Sum}
+use Rattle.table_speed.specs.declared.asked.Kind.TheVariants.{Find as FindKind, Insert as InsertKind, Mix, Sum, Few}
 use Rattle.table_speed.specs.declared.turns.Step.{Step}
 use Rattle.table_speed.specs.declared.turns.Step.TheVariants.{Find as FindStep, Insert as InsertStep, Replace as ReplaceStep}
 
@@ -14,20 +14,23 @@ abbrev pub step_after : Option (List ℕ) → Step
 step_after None = InsertStep
 step_after (Some val) = ReplaceStep val
 
--- what the timed call i is, where the last find found this: in a mix they are finds and inserts in turn, in a sum finds and what comes after each
+-- what the timed call i is, where the last find found this: in a mix they are finds and inserts in turn, in a sum finds and what comes after each;
+-- with few changes each 20th comes after a find, and the others are finds
 abbrev pub timed_step : Kind → ℕ → Option (List ℕ) → Step
 timed_step FindKind i found = FindStep
 timed_step InsertKind i found = InsertStep
 timed_step Mix i found = if i % 2 == 0 then FindStep else InsertStep
 timed_step Sum i found = if i % 2 == 0 then FindStep else step_after found
+timed_step Few i found = if i % 20 == 19 then step_after found else FindStep
 
 -- what call i is, where the last find found this: the first ones fill the table
 abbrev pub step_of : Asked → ℕ → Option (List ℕ) → Step
 step_of asked i found = if nat_lt i asked.filling then InsertStep else timed_step asked.kind (i - asked.filling) found
 
--- how often a thread drew a key before its timed call i: a sum draws one for two calls
+-- how often a thread drew a key before its timed call i: a sum draws one for two calls, and few changes 19 for 20
 abbrev pub draw_of : Kind → ℕ → ℕ
 draw_of Sum i = i / 2
+draw_of Few i = i - (i + 1) / 20
 draw_of _ i = i
 
 -- the key number of a thread's call i: the threads fill the table with the even ones in turn, and draw the others

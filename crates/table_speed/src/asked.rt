@@ -15,6 +15,8 @@ pub(crate) enum Kind {
     Mix,
     /// Finds, and after each an insert or a replace of the same key by what was found.
     Sum,
+    /// Finds, as many keys inserted before them; each 20th call is an insert or a replace, as in a sum.
+    Few,
 }
 
 /// What is to be done: so many timed calls by each seat of the plan's, with the keys that the numbers
@@ -79,7 +81,7 @@ fn filling_of(kind: Kind, keys: u32, seats: u32) -> u32
     ensures few { result ≤ 2 ^ 24 }
 {
     match kind {
-        Kind::Find => (evens(keys) + seats - 1) / seats,
+        Kind::Find | Kind::Few => (evens(keys) + seats - 1) / seats,
         _ => 0,
     }
 }

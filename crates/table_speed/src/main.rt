@@ -11,7 +11,7 @@ use speed_runs::{Words, print_counts, read_words, run};
 use std::io;
 
 const USAGE: &str =
-    "table_speed [time] THREADS BUCKETS KEYS CALLS SHARE find|insert|mix|sum [FILE]";
+    "table_speed [time] THREADS BUCKETS KEYS CALLS SHARE find|insert|mix|sum|few [FILE]";
 
 fn read_kind(word: &str) -> Option<Kind> {
     match word {
@@ -19,6 +19,7 @@ fn read_kind(word: &str) -> Option<Kind> {
         "insert" => Some(Kind::Insert),
         "mix" => Some(Kind::Mix),
         "sum" => Some(Kind::Sum),
+        "few" => Some(Kind::Few),
         _ => None,
     }
 }
@@ -29,6 +30,7 @@ fn word_of(kind: Kind) -> &'static str {
         Kind::Insert => "insert",
         Kind::Mix => "mix",
         Kind::Sum => "sum",
+        Kind::Few => "few",
     }
 }
 

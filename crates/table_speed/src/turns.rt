@@ -30,7 +30,8 @@ pub(crate) fn step_of(asked: &Asked, i: u32, found: Option<ValWords>) -> Step
     timed_step(asked.kind, i - asked.filling, found)
 }
 
-// What the timed call i is. In a mix an insert comes after each find, in a sum an insert or a replace.
+// What the timed call i is. In a mix an insert comes after each find, in a sum an insert or a replace, and
+// where few calls change after 19 finds.
 fn timed_step(kind: Kind, i: u32, found: Option<ValWords>) -> Step
     ensures { result ≡ timed_step kind i found }
 {
@@ -41,6 +42,8 @@ fn timed_step(kind: Kind, i: u32, found: Option<ValWords>) -> Step
         Kind::Mix => Step::Insert,
         Kind::Sum if i % 2 == 0 => Step::Find,
         Kind::Sum => step_after(found),
+        Kind::Few if i % 20 == 19 => step_after(found),
+        Kind::Few => Step::Find,
     }
 }
 
@@ -67,12 +70,14 @@ pub(crate) fn index_of(asked: &Asked, thread: u32, i: u32) -> u32
     (number % u64::from(asked.keys)) as u32
 }
 
-// How often the thread drew a key before its timed call i: a sum draws one for two calls.
+// How often the thread drew a key before its timed call i: a change by what was found draws none, but takes
+// that find's.
 fn draw_of(kind: Kind, i: u32) -> u32
     ensures { result ≡ draw_of kind i }
 {
     match kind {
         Kind::Sum => i / 2,
+        Kind::Few => i - ((u64::from(i) + 1) / 20) as u32,
         _ => i,
     }
 }
