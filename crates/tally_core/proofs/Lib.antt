@@ -20,6 +20,7 @@ pub mod OnObject
 pub mod Once
 pub mod Paying
 pub mod Places
+pub mod Reclaimed
 pub mod Rows
 pub mod SeatStands
 pub mod Summed

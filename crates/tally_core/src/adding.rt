@@ -5,6 +5,7 @@ ghost use Rattle.flow_fold.specs.Flows.{Flows};
 ghost use Rattle.tally_core.specs.Adding.{AreOfValue, Merges, key_words};
 ghost use Rattle.tally_core.specs.Attempts.{HasAddedFirst, HasAddedOne, HasTried, IsAdding, IsTrying};
 
+use crate::ahead::{AHEAD, load_pairs_ahead, reclaim_many};
 use big_atomic::{Seat, Shared};
 use cache_hash::{Insert, Replace, find, insert, replace};
 use flow_fold::{Key, Value, merge};
@@ -29,6 +30,10 @@ pub(crate) fn add_pairs(shared: &Shared, seat: &mut Seat, pairs: &[(Key, Value)]
     ensures stays { Stays seat.old seat.new }
 {
     for i in 0..pairs.len() {
+        if i % AHEAD == 0 {
+            load_pairs_ahead(shared, &pairs[i..]);
+        }
+        reclaim_many(shared, seat);
         let (key, value) = pairs[i];
         if !add_pair(shared, seat, key, value) {
             return false;
@@ -54,8 +59,8 @@ fn add_pair(shared: &Shared, seat: &mut Seat, key: Key, value: Value) -> bool
     }
 }
 
-// The key as the table has it.
-fn words_of_key(key: Key) -> KeyWords
+/// The key as the table has it.
+pub(crate) fn words_of_key(key: Key) -> KeyWords
     ensures { result ≡ key_words key }
 {
     KeyWords {

@@ -3,6 +3,7 @@
 #![tactic(auto)]
 
 mod adding;
+mod ahead;
 mod calling;
 mod calls;
 mod closing;

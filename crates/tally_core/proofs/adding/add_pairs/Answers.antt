@@ -19,7 +19,7 @@ add_pair-requires c =
     let front = take c.loop-i.i c.args.pairs.now in record {
       adding = (
         added ++ front,
-        c.loop-i.invariant.adding added c.requires.adding.1,
+        c.reclaim_many.ensures.adding (added ++ front) (c.loop-i.invariant.adding added c.requires.adding.1),
         omega (arith, c.requires.adding.2, length-append added front, length-take c.loop-i.i c.args.pairs.now, c.loop-i-test.true),
       );
     }
@@ -31,15 +31,17 @@ loop-i-preserved c =
       adding = λ added was.
           subst (λ (l : Flows). IsAdding c.args.shared.now l false c.add_pair.new.seat)
           (append_assoc added front _ ∙ ap (λ (l : Flows). added ++ l) (sym (take_more c.args.pairs.now c.loop-i.i none c.loop-i-test.true)))
-          (c.if-not-add_pair.ensures.added (added ++ front) (c.loop-i.invariant.adding added was));
-      stays = stays_on c.loop-i.invariant.stays c.if-not-add_pair.ensures.stays;
+          (c.if-not-add_pair.ensures.added (added ++ front) (c.reclaim_many.ensures.adding (added ++ front) (c.loop-i.invariant.adding added was)));
+      stays = stays_on (stays_on c.loop-i.invariant.stays c.reclaim_many.ensures.stays) c.if-not-add_pair.ensures.stays;
     }
 
 pub returns-then-not-add_pair-clause-added : goal.returns-then-not-add_pair-clause-added
 returns-then-not-add_pair-clause-added c = λ added was. record {
   count = c.loop-i.i;
   within = c.loop-i.auto.i-end;
-  adding = c.if-not-add_pair.ensures.added (added ++ take c.loop-i.i c.args.pairs.now) (c.loop-i.invariant.adding added was);
+  adding =
+      let front = added ++ take c.loop-i.i c.args.pairs.now in
+      c.if-not-add_pair.ensures.added front (c.reclaim_many.ensures.adding front (c.loop-i.invariant.adding added was));
   all = λ e. let h : true ≡ false = e in absurd cc;
 }
 
@@ -49,4 +51,9 @@ returns-clause-added c = λ added was. record {
   within = c.loop-i.auto.i-end;
   adding = c.loop-i.invariant.adding added was;
   all = λ _. omega (arith, c.loop-i-test.false, c.loop-i.auto.i-end);
+}
+
+pub reclaim_many-requires : goal.reclaim_many-requires
+reclaim_many-requires c = record {
+  adding = (c.requires.adding.0 ++ take c.loop-i.i c.args.pairs.now, c.loop-i.invariant.adding c.requires.adding.0 c.requires.adding.1);
 }
