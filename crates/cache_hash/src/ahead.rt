@@ -1,5 +1,6 @@
 //! Bringing near what calls on a group of keys will load.
 ghost use Rattle.std.specs.Prelude.{◌<◌};
+ghost use Rattle.step_rules.specs.Layout.{IsPlan};
 
 use crate::cells::bucket_cell;
 use seat_history::KeyWords;
@@ -13,6 +14,7 @@ const GROUP: usize = 32;
 /// each other, where those of its calls do. Worth it where the table is larger than the processor's
 /// caches. No seat takes part, and nothing is known by it: calls answer the same with it and without.
 pub fn load_ahead(shared: &Shared, keys: &[KeyWords])
+    requires plan { IsPlan shared.now.plan }
     requires some { 0 < shared.now.plan.buckets }
 {
     for group in keys.chunks(GROUP) {
@@ -22,6 +24,7 @@ pub fn load_ahead(shared: &Shared, keys: &[KeyWords])
 
 // The three rounds of one group.
 fn load_group_ahead(shared: &Shared, keys: &[KeyWords])
+    requires plan { IsPlan shared.now.plan }
     requires some { 0 < shared.now.plan.buckets }
 {
     let mut nodes = [0u64; GROUP];

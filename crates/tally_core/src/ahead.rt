@@ -2,6 +2,7 @@
 ghost use Rattle.std.specs.Prelude.{◌×◌, ◌<◌, false};
 ghost use Rattle.big_atomic.specs.Seats.{Stays};
 ghost use Rattle.flow_fold.specs.Flows.{Flows};
+ghost use Rattle.step_rules.specs.Layout.{IsPlan};
 ghost use Rattle.tally_core.specs.Attempts.{IsAdding};
 
 use crate::adding::words_of_key;
@@ -18,6 +19,7 @@ const MOST_RETIRED: u32 = 256;
 
 /// Loads ahead what the calls for the first pairs load.
 pub(crate) fn load_pairs_ahead(shared: &Shared, pairs: &[(Key, Value)])
+    requires plan { IsPlan shared.now.plan }
     requires some { 0 < shared.now.plan.buckets }
 {
     let mut keys = [KeyWords { k0: 0, k1: 0 }; AHEAD];

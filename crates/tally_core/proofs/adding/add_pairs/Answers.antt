@@ -3,6 +3,7 @@ use Rattle.std.proofs.lemmas.List.{length-take, take_more}
 use Rattle.flow_fold.specs.Flows.{Flows}
 use Rattle.flow_fold.specs.declared.key.Key.{Key}
 use Rattle.flow_fold.specs.declared.value.Value.{Value}
+use Rattle.step_rules.specs.Layout.{IsPlan}
 use Rattle.tally_core.proofs.SeatStands.{stays_on}
 use Rattle.tally_core.specs.Attempts.{IsAdding}
 use Rattle.tally_core.proofs.adding.add_pairs.Goals as goal
@@ -57,3 +58,10 @@ pub reclaim_many-requires : goal.reclaim_many-requires
 reclaim_many-requires c = record {
   adding = (c.requires.adding.0 ++ take c.loop-i.i c.args.pairs.now, c.loop-i.invariant.adding c.requires.adding.0 c.requires.adding.1);
 }
+
+pub load_pairs_ahead-requires : goal.load_pairs_ahead-requires
+load_pairs_ahead-requires c =
+    let ready = (c.loop-i.invariant.adding c.requires.adding.0 c.requires.adding.1).ready in record {
+      plan = subst IsPlan ready.ours.plan ready.law.sound.plan;
+      some = (c.loop-i.invariant.adding c.requires.adding.0 c.requires.adding.1).some;
+    }
