@@ -15,6 +15,7 @@ mod replaces;
 mod tests;
 mod turns;
 
+pub use ahead::load_ahead;
 pub use answers::{Insert, Remove, Replace};
 pub use finds::find;
 pub use inserts::insert;

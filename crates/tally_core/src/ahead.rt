@@ -1,5 +1,5 @@
 //! What a worker does for speed alone: words are loaded before they are needed, and few nodes are in use.
-ghost use Rattle.std.specs.Prelude.{◌×◌, ◌<◌, false};
+ghost use Rattle.std.specs.Prelude.{◌<◌, false};
 ghost use Rattle.big_atomic.specs.Seats.{Stays};
 ghost use Rattle.flow_fold.specs.Flows.{Flows};
 ghost use Rattle.step_rules.specs.Layout.{IsPlan};
