@@ -29,6 +29,7 @@ pub mod Scanning
 pub mod SeatNumbers
 pub mod Sharing
 pub mod Shortage
+mod Stopping
 pub mod Unlike
 pub mod Versioned
 pub mod Winning

@@ -9,6 +9,7 @@ mod copies;
 mod dropped;
 mod readers;
 mod small_shares;
+mod stops;
 mod threads;
 
 use crate::{Stored, Swap, compare_and_swap, hold, load, look, release_hold, store};

@@ -47,10 +47,10 @@ fn a_dropped_holder_keeps_the_node_of_a_share_of_one(rt: HostRuntime) -> Result<
     Ok(())
 }
 
-const STORES: u64 = 1_000;
+pub(super) const STORES: u64 = 1_000;
 
 // Stores one number after the other, each time without a loss of nodes.
-fn store_all(rt: &impl Abort, shared: &Shared, seat: &mut Seat)
+pub(super) fn store_all(rt: &impl Abort, shared: &Shared, seat: &mut Seat)
     requires ready { IsReady shared.now seat.old }
     ensures ready { IsReady shared.now seat.new }
 {
