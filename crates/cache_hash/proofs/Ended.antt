@@ -1,10 +1,12 @@
 -- What the end of a call says of its answer.
-use Rattle.std.proofs.Common.{◌≡◌, ◌∙◌, ℕ, ◌+◌, ◌≤◌, Bool, true, false, ◌&&◌, not, is_none, cond, List, [], ◌∷◌, Option, None, Some, refl, sym, ap, arith}
+use Rattle.std.proofs.Common.{◌≡◌, ◌∙◌, ℕ, ◌+◌, ◌≤◌, Bool, true, false, ◌&&◌, not, is_none, cond, List, [], ◌∷◌, Option, None, Some, refl, sym, ap, subst, arith, ◌⊎◌, inl, inr, ⊎_elim}
 use Rattle.std.proofs.lemmas.Bool.{and_parts, and_right, false≢true}
 use Rattle.big_atomic.specs.Turns.{exchanges, scan_loads}
-use Rattle.cache_hash.specs.Asking.{HasEnded, NeverChanges, insert_answer, remove_answer, replace_answer}
-use Rattle.cache_hash.specs.Calls.{IsInserted, IsKeyChange, IsRemoved, IsReplaced, value_at}
+use Rattle.cache_hash.proofs.Progress.{wants_as}
+use Rattle.cache_hash.specs.Asking.{AreInserts, AsksFor, HasEnded, IsInsert, NeverChanges, Only, call_for, insert_answer, remove_answer, replace_answer}
+use Rattle.cache_hash.specs.Calls.{IsChangeAmong, IsInserted, IsKeyChange, IsRemoved, IsReplaced, value_at}
 use Rattle.cache_hash.specs.declared.answers.Replace.TheVariants.{Yes as ReplaceYes, Found as ReplaceFound}
+use Rattle.cache_hash.specs.declared.asked.Change.{Change}
 use Rattle.cache_hash.specs.declared.asked.Change.TheVariants.{Insert, Replace, Remove}
 use Rattle.cache_hash.specs.declared.asked.Told.{Told}
 use Rattle.cache_hash.specs.declared.asked.Told.TheVariants.{Full, Plain}
@@ -21,6 +23,40 @@ use Rattle.step_rules.specs.SeatData.{SeatData}
 use Rattle.step_rules.specs.Stock.{stand_removes}
 use Rattle.step_rules.specs.declared.view.Stand.{Stand}
 
+-- AMONG WHICH CALLS it was one
+abbrev pub change_as : {due later : Call → Type 0} {call : Call} {reply : Reply} {changed : Bool} {before after : SeatData} → ((other : Call) → due other → later other)
+    → IsChangeAmong due call reply changed before after → IsChangeAmong later call reply changed before after
+change_as into h = record {
+  answered = h.answered;
+  changes = h.changes;
+  hold = h.hold;
+  scans = ⊎_elim (λ none. inl none) (λ some. inr (wants_as into some.0, some.1, some.2)) h.scans;
+  kept = h.kept;
+  full = h.full;
+  short = h.short;
+}
+
+abbrev pub ended_as : {among later : Option (List ℕ) → Change → Type 0} {key : KeyWords} {change : Change} {told : Told} {before after : SeatData}
+    → ((there : Option (List ℕ)) (other : Change) → among there other → later there other) → HasEnded key among change told before after → HasEnded key later change told before after
+ended_as {key = key} {change = change} {after = after} into h = record {
+  ends = change_as (λ call asks. (asks.0, asks.1, into asks.0 asks.1 asks.2, asks.3)) h.ends;
+  value = h.value;
+  asked = into (value_at after.view h.ends.answered.stand.place key) change h.asked;
+  never = λ never. h.never (λ there other a. never there other (into there other a));
+  quiet = λ all. h.quiet (λ there other a. all there other (into there other a));
+}
+
+-- of a call that was to make one change alone
+pub ended_only : {key : KeyWords} {asked : Change} {told : Told} {before old now : SeatData} → before ≡ old → (made : Change) × HasEnded key (Only asked) made told before now
+    → HasEnded key (Only asked) asked told old now
+ended_only {key = key} {asked = asked} {told = told} {now = now} began h =
+    subst (λ (z : Change × SeatData). HasEnded key (Only asked) z.0 told z.1 now) (λ j. (h.1.asked j, began j)) h.1
+
+-- only that one
+abbrev only : {key : KeyWords} {change : Change} {reply : Reply} {changed : Bool} {before after : SeatData}
+    → IsChangeAmong (AsksFor key (Only change)) (call_for key change) reply changed before after → IsKeyChange (call_for key change) reply changed before after
+only {key = key} h = change_as (λ other asks. asks.3 ∙ ap (call_for key) asks.2) h
+
 -- THE REMOVES that a call spends
 none_spent : (call : Call) (s : Stand) → s.call ≡ call → removes_of call ≡ 0 → stand_removes s ≡ 0
 none_spent call s is none = by_test s.changes
@@ -29,8 +65,8 @@ none_spent call s is none = by_test s.changes
     by_test true = ap removes_of is ∙ none
     by_test false = refl
 
-keeps_removes : {call : Call} {reply : Reply} {changed : Bool} {before after : SeatData} → removes_of call ≡ 0
-    → (h : IsKeyChange call reply changed before after) → after.view.removes ≡ before.view.removes
+pub keeps_removes : {due : Call → Type 0} {call : Call} {reply : Reply} {changed : Bool} {before after : SeatData} → removes_of call ≡ 0
+    → (h : IsChangeAmong due call reply changed before after) → after.view.removes ≡ before.view.removes
 keeps_removes {call} none h =
     let a = h.answered in
     let left = a.stood.removes in
@@ -45,19 +81,22 @@ none_is : (o : Option (List ℕ)) → is_none o ≡ true → o ≡ None
 none_is None e = refl
 none_is (Some val) e = absurd (false≢true e)
 
-pub inserted : {key : KeyWords} {val : List ℕ} {before after : SeatData} (told : Told) → HasEnded key (Insert val) told before after → IsInserted key val (insert_answer told) before after
-inserted (Plain None) h = record { change = h.ends; there = h.value; quiet = h.quiet tt; removes = keeps_removes refl h.ends; enough = λ many count free e. absurd cc }
+all_inserts : (key : KeyWords) (val : List ℕ) → AreInserts key (Only (Insert val))
+all_inserts key val there change is = subst (λ (c : Change). IsInsert (call_for key c)) (sym is) tt
+
+pub inserted : {key : KeyWords} {val : List ℕ} {before after : SeatData} (told : Told) → HasEnded key (Only (Insert val)) (Insert val) told before after → IsInserted key val (insert_answer told) before after
+inserted {key} {val} (Plain None) h = record { change = only {change = Insert val} h.ends; there = h.value; quiet = h.quiet (all_inserts key val); removes = keeps_removes refl h.ends; enough = λ many count free e. absurd cc }
 inserted {key} {val} {before} {after} (Plain (Some there)) h = record {
-  change = h.ends;
+  change = only {change = Insert val} h.ends;
   there = h.value;
-  quiet = h.quiet tt;
+  quiet = h.quiet (all_inserts key val);
   removes = keeps_removes refl h.ends;
   enough = λ many count free e. absurd cc;
 }
 inserted {key} {val} {before} {after} (Full needed free) h = record {
-  change = h.ends;
+  change = only {change = Insert val} h.ends;
   there = let f = h.ends.full needed free refl in none_is (value_at after.view h.ends.answered.stand.place key) f.1.changes;
-  quiet = h.quiet tt;
+  quiet = h.quiet (all_inserts key val);
   removes = keeps_removes refl h.ends;
   enough = λ many count other e.
       let f = h.ends.full needed free refl in
@@ -95,20 +134,20 @@ module _ {key : KeyWords} {old new : List ℕ} {before after : SeatData} where
     removes = keeps_removes refl h;
   }
 
-  pub replaced : (told : Told) → HasEnded key (Replace old new) told before after → IsReplaced key old new (replace_answer old told) before after
+  pub replaced : (told : Told) → HasEnded key (Only (Replace old new)) (Replace old new) told before after → IsReplaced key old new (replace_answer old told) before after
   replaced (Plain None) h = record {
-    change = h.ends;
+    change = only {change = Replace old new} h.ends;
     there = h.value;
     unlike = λ other is. absurd cc;
-    same = λ same. h.never (same_never old new same);
+    same = λ same. h.never (λ there change is. subst NeverChanges (sym is) (same_never old new same));
     removes = keeps_removes refl h.ends;
   }
-  replaced (Plain (Some val)) h = by_value val (is_same val old) refl h.ends h.value (λ same. h.never (same_never old new same))
+  replaced (Plain (Some val)) h = by_value val (is_same val old) refl (only {change = Replace old new} h.ends) h.value (λ same. h.never (λ there change is. subst NeverChanges (sym is) (same_never old new same)))
   replaced (Full needed free) h = record {
-    change = h.ends;
+    change = only {change = Replace old new} h.ends;
     there = let f = h.ends.full needed free refl in value_is (value_at after.view h.ends.answered.stand.place key) old (not (is_same old new)) f.1.changes;
     unlike = λ other is. absurd cc;
-    same = λ same. h.never (same_never old new same);
+    same = λ same. h.never (λ there change is. subst NeverChanges (sym is) (same_never old new same));
     removes = keeps_removes refl h.ends;
   }
 
@@ -120,7 +159,7 @@ module _ {key : KeyWords} {before after : SeatData} where
       let is : stand_removes a.stand ≡ cond changed 1 0 = (λ i. cond (h.changes i) (removes_of (a.stood.call i)) 0) in
       ap (λ n. after.view.removes + n) (sym is) ∙ a.stood.removes
 
-  pub removed : (told : Told) → HasEnded key Remove told before after → IsRemoved key (remove_answer told) before after
-  removed (Plain None) h = record { change = h.ends; there = h.value; removes = spends h.ends }
-  removed (Plain (Some val)) h = record { change = h.ends; there = h.value; removes = spends h.ends }
-  removed (Full needed free) h = record { change = h.ends; there = let f = h.ends.full needed free refl in f.1.changes; removes = spends h.ends }
+  pub removed : (told : Told) → HasEnded key (Only Remove) Remove told before after → IsRemoved key (remove_answer told) before after
+  removed (Plain None) h = record { change = only {change = Remove} h.ends; there = h.value; removes = spends (only {change = Remove} h.ends) }
+  removed (Plain (Some val)) h = record { change = only {change = Remove} h.ends; there = h.value; removes = spends (only {change = Remove} h.ends) }
+  removed (Full needed free) h = record { change = only {change = Remove} h.ends; there = let f = h.ends.full needed free refl in f.1.changes; removes = spends (only {change = Remove} h.ends) }

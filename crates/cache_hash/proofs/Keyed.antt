@@ -62,20 +62,20 @@ holds_by key (Replace old new) c held = refl
 holds_by key Remove c held = refl
 
 -- free nodes
-pub keeps_same : (call : Call) {old new : List ℕ} → new ≡ old → KeepsFree call old new
-keeps_same call same = record { nodes = λ n. ap (times n) same; order = λ _. same }
+pub keeps_same : (inserts : Type 0) {old new : List ℕ} → new ≡ old → KeepsFree inserts old new
+keeps_same inserts same = record { nodes = λ n. ap (times n) same; order = λ _. same }
 
-pub keeps_then : {call : Call} {a b c : List ℕ} → KeepsFree call a b → KeepsFree call b c → KeepsFree call a c
-keeps_then first second = record { nodes = λ n. second.nodes n ∙ first.nodes n; order = λ insert. second.order insert ∙ first.order insert }
+pub keeps_then : {inserts : Type 0} {a b c : List ℕ} → KeepsFree inserts a b → KeepsFree inserts b c → KeepsFree inserts a c
+keeps_then first second = record { nodes = λ n. second.nodes n ∙ first.nodes n; order = λ all. second.order all ∙ first.order all }
 
 -- tries
-pub exchange_tries : (call : Call) (steps : List Counted) → 0 < exchanges steps → Tries call steps
-exchange_tries call steps some = record { tried = omega arith; exchanged = λ _. some }
+pub exchange_tries : (inserts : Type 0) (steps : List Counted) → 0 < exchanges steps → Tries inserts steps
+exchange_tries inserts steps some = record { tried = omega arith; exchanged = λ _. some }
 
-pub tries_then : {call : Call} (a b : List Counted) → Tries call a → Tries call (a ++ b)
+pub tries_then : {inserts : Type 0} (a b : List Counted) → Tries inserts a → Tries inserts (a ++ b)
 tries_then a b t = record {
   tried = let some = t.tried in omega (arith, exchanges-append a b, lost-append a b);
-  exchanged = λ insert. let some = t.exchanged insert in omega (arith, exchanges-append a b);
+  exchanged = λ all. let some = t.exchanged all in omega (arith, exchanges-append a b);
 }
 
 -- a plain reply isn't Full

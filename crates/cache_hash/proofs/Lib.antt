@@ -8,4 +8,5 @@ mod Making
 mod Progress
 mod Told
 mod Turning
+mod Updating
 mod Walking

@@ -1,5 +1,5 @@
 -- How a change is made: the front is copied and installed.
-use Rattle.std.proofs.Common.{◌≡◌, ◌≢◌, ◌∙◌, ℕ, ◌+◌, ◌*◌, ◌/◌, ◌<◌, ◌≤◌, suc, Bool, true, false, ne_eqb, List, [], ◌∷◌, ◌++◌, None, length, take, drop, refl, sym, ap, subst, arith, ◌⊎◌, inl, inr}
+use Rattle.std.proofs.Common.{◌≡◌, ◌≢◌, ◌∙◌, ℕ, ◌+◌, ◌*◌, ◌/◌, ◌<◌, ◌≤◌, suc, Bool, true, false, ne_eqb, List, [], ◌∷◌, ◌++◌, Option, None, length, take, drop, refl, sym, ap, subst, arith, ◌⊎◌, inl, inr}
 use Rattle.std.proofs.lemmas.Bool.{cond-false, eqb-true, false≢true}
 use Rattle.std.proofs.lemmas.List.{take-append-drop, take_all}
 use Rattle.big_atomic.proofs.Answered.{HasAnswered, goes_of}
@@ -17,9 +17,10 @@ use Rattle.big_atomic.specs.Turns.{exchanges, lost_steps, scan_loads}
 use Rattle.cache_hash.proofs.Fronted.{GaveUp, HasPrepared, MayPrepare, gave_up, insert_prepared, remove_prepared, replace_prepared}
 use Rattle.cache_hash.proofs.Keyed.{changes_in, exchange_tries, holds_by, never_full, on_key, replies_by, there_for}
 use Rattle.cache_hash.proofs.Progress.{Onward, going_of, going_on, wants_more}
-use Rattle.cache_hash.specs.Asking.{HasEnded, IsEditOf, IsInsert, NeverChanges, call_for, plain_reply, would_change}
+use Rattle.cache_hash.specs.Asking.{AreInserts, AsksFor, HasEnded, IsEditOf, IsInsert, NoneChanges, call_for, plain_reply, would_change}
 use Rattle.cache_hash.specs.Calls.{WantsNodes, value_at}
-use Rattle.cache_hash.specs.Changing.{Begins, Changing, HasLostTurn, MayMake, Scans}
+use Rattle.cache_hash.specs.Changing.{Begun, Changing, HasCome, HasLostTurn, MayMake, Scans}
+use Rattle.big_atomic.specs.declared.starting.Start.{Start}
 use Rattle.cache_hash.specs.declared.asked.Change.{Change}
 use Rattle.cache_hash.specs.declared.asked.Due.{Due}
 use Rattle.cache_hash.specs.declared.asked.Told.TheVariants.{Plain}
@@ -113,15 +114,18 @@ given_up key change (InsertEdit other val) is copies = absurd copies
 given_up key change (ReplaceEdit at val) is copies = (copies, λ insert. subst IsInsert is.1.1 insert)
 given_up key change (RemoveEdit at) is copies = (copies, λ insert. subst IsInsert is.1 insert)
 
-module _ {shared : ObjectData} {key : KeyWords} {change : Change} {cell version word : ℕ} {due : Due} {scanned : Bool} {before mid : SeatData}
-    (m : MayMake shared key change cell version word due scanned before mid) where
-  abbrev i : Changing shared key change cell scanned before mid
+module _ {shared : ObjectData} {key : KeyWords} {b : Begun shared key} {cell : ℕ} {start : Start} {change : Change} {due : Due} {scanned : Bool} {mid : SeatData}
+    (m : MayMake b cell start change due scanned mid) where
+  abbrev word : ℕ
+  word = start.word
+
+  abbrev i : Changing b cell scanned mid
   i = m.going
 
   abbrev call : Call
   call = call_for key change
 
-  plan : mid.view.plan ≡ before.view.plan
+  plan : mid.view.plan ≡ b.before.view.plan
   plan = ap (λ (z : View). z.plan) i.goes.only
 
   changes_here : is_change_in (claimed_records mid.view) call ≡ true
@@ -134,12 +138,12 @@ module _ {shared : ObjectData} {key : KeyWords} {change : Change} {cell version 
     may = record {
       stands = m.chain.stands;
       cell = m.chain.cell_is;
-      on = on_key key change mid.view.plan ∙ (ap (λ (p : Plan). key_cell p (key_number key)) plan ∙ i.begins.cell_is);
-      there = there_for key change mid.view.plan (subst (λ (p : Plan). 0 < p.buckets) (sym plan) i.begins.some);
+      on = on_key key change mid.view.plan ∙ (ap (λ (p : Plan). key_cell p (key_number key)) plan ∙ i.cell_is);
+      there = there_for key change mid.view.plan (subst (λ (p : Plan). 0 < p.buckets) (sym plan) b.some);
       changes = changes_here;
-      wide = i.begins.wide;
-      left = let left = i.begins.left in omega (arith, ap (λ (z : View). z.changes) i.goes.only);
-      removes = let removes = i.begins.removes in omega (arith, ap (λ (z : View). z.removes) i.goes.only);
+      wide = m.may.wide;
+      left = let left = b.left in omega (arith, ap (λ (z : View). z.changes) i.goes.only);
+      removes = let removes = m.may.removes in omega (arith, ap (λ (z : View). z.removes) i.goes.only);
     };
   }
 
@@ -153,16 +157,16 @@ module _ {shared : ObjectData} {key : KeyWords} {change : Change} {cell version 
   make_place = has_place key change due.edit mid.view m.decides.3 changes_here
 
   -- it may change the object
-  ever : NeverChanges change → ⊥
-  ever never = false≢true (sym (never due.there) ∙ m.decides.1)
+  ever : NoneChanges (HasCome b.came) → ⊥
+  ever never = false≢true (sym (never due.there change m.asked due.there) ∙ m.decides.1)
 
-  pub gave_up_turn : {now : SeatData} → IsCopied cell due.edit Moved mid now → HasLostTurn shared key change cell scanned before mid now
+  pub gave_up_turn : {now : SeatData} → IsCopied cell due.edit Moved mid now → HasLostTurn b cell scanned mid now
   gave_up_turn {now} copies =
       let up = given_up key change due.edit m.decides.3 copies in
       let g = gave_up m.chain.near m.chain.stands m.chain.cell_is m.chain.law up.0 in
-      let b : List Counted = g.0 in
-      let u : GaveUp cell b mid now = g.1 in
-      let onward : Onward 1 0 key change cell b mid now = record {
+      let steps : List Counted = g.0 in
+      let u : GaveUp cell steps mid now = g.1 in
+      let onward : Onward 1 0 key (HasCome b.came) cell steps mid now = record {
         goes = u.goes;
         paced = u.paced;
         idle = λ idle. u.holding;
@@ -171,58 +175,57 @@ module _ {shared : ObjectData} {key : KeyWords} {change : Change} {cell version 
         own = λ none. ap (λ (x : Claim). x.word) (u.claims OWN (λ e. absurd (omega arith))) ∙ none;
         retired = u.retired;
         none_scanned = u.looks.none_scanned;
-        free = λ _. record { nodes = u.free; order = λ insert. absurd (up.1 insert) };
+        free = λ _. record { nodes = u.free; order = λ all. absurd (up.1 (all due.there change m.asked)) };
         never = λ _. u.looks.none_exchanged;
       } in
       let lost = u.paced.rounds in record {
         so_far = record {
           going = going_on i i.paced onward (omega arith);
-          tried = λ yes. record { tried = omega (arith, lost-append i.steps b); exchanged = λ insert. absurd (up.1 insert) };
+          tried = λ yes. record { tried = omega (arith, lost-append i.steps steps); exchanged = λ all. absurd (up.1 (all due.there change m.asked)) };
         };
         paced = paces_then i.paced u.paced;
         longer = u.longer;
       }
 
 -- THE FRONT WAS COPIED
-pub record HasFront (shared : ObjectData) (key : KeyWords) (change : Change) (cell version word : ℕ) (due : Due) (scanned : Bool) (node : ℕ)
-    (before mid copied : SeatData) : Type 0 where
-  pub may : MayMake shared key change cell version word due scanned before mid
+pub record HasFront {shared : ObjectData} {key : KeyWords} (b : Begun shared key) (cell : ℕ) (start : Start) (change : Change) (due : Due) (scanned : Bool) (node : ℕ)
+    (mid copied : SeatData) : Type 0 where
+  pub may : MayMake b cell start change due scanned mid
   pub steps : List Counted
-  pub prepared : HasPrepared cell word node (call_for key change) steps mid copied
+  pub prepared : HasPrepared cell start.word node (call_for key change) steps mid copied
 
-pub has_front : {shared : ObjectData} {key : KeyWords} {change : Change} {cell version word : ℕ} {due : Due} {scanned : Bool} {node : ℕ} {before mid copied : SeatData}
-    → MayMake shared key change cell version word due scanned before mid → IsCopied cell due.edit (Ready node) mid copied → IsSeat copied
-    → HasFront shared key change cell version word due scanned node before mid copied
+pub has_front : {shared : ObjectData} {key : KeyWords} {b : Begun shared key} {cell : ℕ} {start : Start} {change : Change} {due : Due} {scanned : Bool} {node : ℕ} {mid copied : SeatData}
+    → MayMake b cell start change due scanned mid → IsCopied cell due.edit (Ready node) mid copied → IsSeat copied → HasFront b cell start change due scanned node mid copied
 has_front {key = key} {change = change} {due = due} m copies law =
     let p = copied_front key change due.edit m.decides.3 (may_prepare m) m.chain.none copies law in record { may = m; steps = p.0; prepared = p.1 }
 
-module _ {shared : ObjectData} {key : KeyWords} {change : Change} {cell version word : ℕ} {due : Due} {scanned : Bool} {node : ℕ} {before mid copied : SeatData}
-    (h : HasFront shared key change cell version word due scanned node before mid copied) where
-  abbrev j : Changing shared key change cell scanned before mid
+module _ {shared : ObjectData} {key : KeyWords} {b : Begun shared key} {cell : ℕ} {start : Start} {change : Change} {due : Due} {scanned : Bool} {node : ℕ} {mid copied : SeatData}
+    (h : HasFront b cell start change due scanned node mid copied) where
+  abbrev j : Changing b cell scanned mid
   j = h.may.going
 
   pub copied_ours : IsOf shared copied
   copied_ours = goes_of h.prepared.goes (going_of j)
 
   -- the version was found in this turn
-  pub front_turn : HasTurn cell version word (j.steps ++ h.steps)
+  pub front_turn : HasTurn cell start.version start.word (j.steps ++ h.steps)
   front_turn = turn_more j.steps h.steps h.prepared.kept h.may.turn
 
-  pub copied_begun : HasBegun cell version word copied.view
+  pub copied_begun : HasBegun cell start.version start.word copied.view
   copied_begun =
-      let goes : Goes cell None (j.steps ++ h.steps) before copied = goes_then j.goes h.prepared.goes in
-      turn_begun before.view copied.view j.begins.ready.law.sound.trail.within (ap (λ (z : View). z.since) goes.only) goes.trail front_turn
+      let goes : Goes cell None (j.steps ++ h.steps) b.before copied = goes_then j.goes h.prepared.goes in
+      turn_begun b.before.view copied.view b.ready.law.sound.trail.within (ap (λ (z : View). z.since) goes.only) goes.trail front_turn
 
   -- no change of the seat has a lock
   pub copied_unlocked : copied.view.writer.stage ≢ Locked
   copied_unlocked = no_lock copied.view h.prepared.law.sound (ap (λ (x : Claim). x.word) (h.prepared.claims OWN (λ e. absurd (omega arith))) ∙ j.own)
 
   -- IT WAS LOST
-  module _ {other : ℕ} {now : SeatData} (moved : HasMoved cell word node other copied now) (last : IsSeat now) where
+  module _ {other : ℕ} {now : SeatData} (moved : HasMoved cell start.word node other copied now) (last : IsSeat now) where
     lost : LostInstall cell copied now
     lost = lost_install moved last
 
-    onward : Onward 1 0 key change cell (h.steps ++ lost.steps) mid now
+    onward : Onward 1 0 key (HasCome b.came) cell (h.steps ++ lost.steps) mid now
     onward =
         let none = lost.none_scanned in
         let none_before = h.prepared.looks.none_scanned in
@@ -239,14 +242,14 @@ module _ {shared : ObjectData} {key : KeyWords} {change : Change} {cell version 
           never = λ never. absurd (ever h.may never);
         }
 
-    pub lost_turn : HasLostTurn shared key change cell scanned before mid now
+    pub lost_turn : HasLostTurn b cell scanned mid now
     lost_turn =
         let tried = lost.some_tried in
         let longer = lost.longer in
         let before_that = longer_seen mid.view.seen copied.view.seen h.prepared.goes.seen in record {
           so_far = record {
             going = going_on j j.paced onward (omega arith);
-            tried = λ yes. exchange_tries (call_for key change) (j.steps ++ (h.steps ++ lost.steps))
+            tried = λ yes. exchange_tries (AreInserts key (HasCome b.came)) (j.steps ++ (h.steps ++ lost.steps))
                 (omega (arith, exchanges-append j.steps (h.steps ++ lost.steps), exchanges-append h.steps lost.steps));
           };
           paced = paces_then j.paced onward.paced;
@@ -264,41 +267,38 @@ value_of_place key v q history =
     ∙ ap (λ (l : List Entry). (contents_from blank l).values (key_number key)) (take_all (length log) log (omega arith))
 
 -- the call's own cell
-pub own_front : {shared : ObjectData} {key : KeyWords} {change : Change} {cell version word : ℕ} {due : Due} {scanned : Bool} {node : ℕ} {before mid copied : SeatData}
-    → HasFront shared key change cell version word due scanned node before mid copied
-    → HasFront shared key change (cell_of before.view.plan (call_for key change)) version word due scanned node before mid copied
-own_front {shared} {key} {change} {version = version} {word = word} {due = due} {scanned = scanned} {node = node} {before = before} {mid = mid} {copied = copied} h =
-    subst (λ k. HasFront shared key change k version word due scanned node before mid copied)
-    (sym (on_key key change before.view.plan ∙ h.may.going.begins.cell_is)) h
+pub own_front : {shared : ObjectData} {key : KeyWords} {b : Begun shared key} {cell : ℕ} {start : Start} {change : Change} {due : Due} {scanned : Bool} {node : ℕ} {mid copied : SeatData}
+    → HasFront b cell start change due scanned node mid copied → HasFront b (cell_of b.before.view.plan (call_for key change)) start change due scanned node mid copied
+own_front {key = key} {b = b} {start = start} {change = change} {due = due} {scanned = scanned} {node = node} {mid = mid} {copied = copied} h =
+    subst (λ k. HasFront b k start change due scanned node mid copied) (sym (on_key key change b.before.view.plan ∙ h.may.going.cell_is)) h
 
-pub own_installed : {shared : ObjectData} {key : KeyWords} {change : Change} {cell version word node : ℕ} {call : Call} {before copied after : SeatData}
-    → Begins shared key change cell before
-    → call ≡ call_for key change → HasInstalled cell version word node call copied after
-    → HasInstalled (cell_of before.view.plan (call_for key change)) version word node (call_for key change) copied after
-own_installed {key = key} {change = change} {version = version} {word = word} {node = node} {before = before} {copied = copied} {after = after} b is h =
-    subst (λ (z : ℕ × Call). HasInstalled z.0 version word node z.1 copied after) (λ k. (sym (on_key key change before.view.plan ∙ b.cell_is) k, is k)) h
+pub own_installed : {shared : ObjectData} {key : KeyWords} {b : Begun shared key} {cell : ℕ} {start : Start} {change : Change} {due : Due} {scanned : Bool} {node : ℕ} {call : Call} {mid copied after : SeatData}
+    → HasFront b cell start change due scanned node mid copied → call ≡ call_for key change → HasInstalled cell start.version start.word node call copied after
+    → HasInstalled (cell_of b.before.view.plan (call_for key change)) start.version start.word node (call_for key change) copied after
+own_installed {key = key} {b = b} {start = start} {change = change} {node = node} {copied = copied} {after = after} f is h =
+    subst (λ (z : ℕ × Call). HasInstalled z.0 start.version start.word node z.1 copied after) (λ k. (sym (on_key key change b.before.view.plan ∙ f.may.going.cell_is) k, is k)) h
 
-module _ {shared : ObjectData} {key : KeyWords} {change : Change} {version word : ℕ} {due : Due} {scanned : Bool} {node : ℕ} {before mid copied after walked final : SeatData}
-    (h : HasFront shared key change (cell_of before.view.plan (call_for key change)) version word due scanned node before mid copied)
-    (installed : HasInstalled (cell_of before.view.plan (call_for key change)) version word node (call_for key change) copied after)
+module _ {shared : ObjectData} {key : KeyWords} {b : Begun shared key} {start : Start} {change : Change} {due : Due} {scanned : Bool} {node : ℕ} {mid copied after walked final : SeatData}
+    (h : HasFront b (cell_of b.before.view.plan (call_for key change)) start change due scanned node mid copied)
+    (installed : HasInstalled (cell_of b.before.view.plan (call_for key change)) start.version start.word node (call_for key change) copied after)
     (walk : ClearsWalk after walked) (back : IsReleased Back walked final) (last : IsSeat final) where
   abbrev asked : Call
   asked = call_for key change
 
   abbrev own_cell : ℕ
-  own_cell = cell_of before.view.plan asked
+  own_cell = cell_of b.before.view.plan asked
 
-  abbrev going : Changing shared key change own_cell scanned before mid
+  abbrev going : Changing b own_cell scanned mid
   going = h.may.going
 
   abbrev so_far : List Counted
   so_far = going.steps ++ h.steps
 
-  abbrev won : EndsChange shared own_cell version word node asked so_far going.look before copied after walked final
+  abbrev won : EndsChange shared own_cell start.version start.word node asked so_far going.look b.before copied after walked final
   won = record {
-    ready = going.begins.ready;
-    first = going.begins.ready.law;
-    left = going.begins.left;
+    ready = b.ready;
+    first = b.ready.law;
+    left = b.left;
     on = refl;
     keeps = λ c held. holds_by key change c held;
     calling = record {
@@ -320,16 +320,16 @@ module _ {shared : ObjectData} {key : KeyWords} {change : Change} {version word 
   back_same : claim_of BACK copied.view ≡ claim_of BACK mid.view
   back_same = h.prepared.claims BACK (λ e. absurd (omega arith))
 
-  final_plan : final.view.plan ≡ before.view.plan
+  final_plan : final.view.plan ≡ b.before.view.plan
   final_plan = won_plan (won_change won)
 
   -- the key's value there is the one that the turn found
   value_won : value_at final.view place key ≡ due.there
   value_won =
-      let stands : On (claim_of BACK copied.view) (word / 2) = subst (λ (x : Claim). On x (word / 2)) (sym back_same) h.may.chain.stands in
+      let stands : On (claim_of BACK copied.view) (start.word / 2) = subst (λ (x : Claim). On x (start.word / 2)) (sym back_same) h.may.chain.stands in
       let records : records_at final.view.plan (take place final.view.seen) own_cell ≡ claimed_records copied.view =
       change_records won stands (ap (λ (x : Claim). x.cell) back_same ∙ h.may.chain.cell_is) in
-      let cell_is : key_cell final.view.plan (key_number key) ≡ own_cell = ap (λ (p : Plan). key_cell p (key_number key)) final_plan ∙ sym (on_key key change before.view.plan) in
+      let cell_is : key_cell final.view.plan (key_number key) ≡ own_cell = ap (λ (p : Plan). key_cell p (key_number key)) final_plan ∙ sym (on_key key change b.before.view.plan) in
       sym (value_of_place key final.view place last.sound.history)
       ∙ (ap (λ k. value_in (records_at final.view.plan (take place final.view.seen) k) (key_number key)) cell_is
       ∙ (ap (λ (rs : List (List ℕ)). value_in rs (key_number key)) (records ∙ ap (λ (x : Claim). records_of x.pages) back_same) ∙ h.may.chain.value))
@@ -337,7 +337,7 @@ module _ {shared : ObjectData} {key : KeyWords} {change : Change} {version word 
   reply_won : (stand (won_change won)).reply ≡ plain_reply change due.there
   reply_won = won_told (won_change won) (λ held. replies_by key change (state_at final.view.seen place) held ∙ ap (plain_reply change) value_won)
 
-  answer : HasAnswered own_cell going.look asked (plain_reply change due.there) (all_steps (won_change won)) (stand (won_change won)) before final
+  answer : HasAnswered own_cell going.look asked (plain_reply change due.there) (all_steps (won_change won)) (stand (won_change won)) b.before final
   answer = has_won (won_change won) reply_won
 
   on : GoesOn mid.view.seen final.view.seen
@@ -346,7 +346,7 @@ module _ {shared : ObjectData} {key : KeyWords} {change : Change} {version word 
       subst (λ (l : List Entry). GoesOn l final.view.seen) (ap (λ (z : SeatData). z.view.seen) installed.announces) (won_on (won_change won)) in
       goes_further mid.view.seen copied.view.seen final.view.seen later.0 h.prepared.goes.seen later.1
 
-  -- what was seen before the front was copied is no more than what the exchange found
+  -- what was seen b.before the front was copied is no more than what the exchange found
   late : length mid.view.seen ≤ place
   late =
       let w = won_change won in
@@ -365,17 +365,18 @@ module _ {shared : ObjectData} {key : KeyWords} {change : Change} {version word 
   tried_by = change_tried won
 
   abbrev Scanned : ℕ → ℕ → List Counted → Type 0
-  Scanned look until steps = (scan_loads steps ≡ 0) ⊎ (WantsNodes asked look until before final.view × (scan_loads steps ≡ 4 * before.view.plan.seats)
+  Scanned look until steps = (scan_loads steps ≡ 0) ⊎ (WantsNodes (AsksFor key (HasCome b.came)) look until b.before final.view × (scan_loads steps ≡ 4 * b.before.view.plan.seats)
       × ((is_full (plain_reply change due.there) ≡ true) ⊎ (0 < exchanges steps + lost_steps steps)))
 
-  scans_for : (b : Bool) → Scans b asked going.steps going.look before mid → Scanned going.look place (all_steps (won_change won))
+  scans_for : (made : Bool) → Scans made (AsksFor key (HasCome b.came)) going.steps going.look b.before mid → Scanned going.look place (all_steps (won_change won))
   scans_for false s = inl (scanned_by ∙ s.none)
   scans_for true s = inr (wants_more final.view late on plan_since s.want, scanned_by ∙ s.all, inr (omega (arith, tried_by)))
 
-  pub made : IsReady shared final × HasEnded key change (Plain due.there) before final
+  pub made : IsReady shared final × HasEnded key (HasCome b.came) change (Plain due.there) b.before final
   made = (
     change_ready won,
     record {
+      asked = subst (λ (found : Option (List ℕ)). HasCome b.came found change) (sym (ap (λ (s : Stand). value_at final.view s.place key) answer.stand_is ∙ value_won)) h.may.asked;
       ends = record {
         answered = answer.answered;
         changes = ap (λ (s : Stand). s.changes) answer.stand_is ∙ sym h.may.decides.1;

@@ -1,5 +1,5 @@
 -- Further steps of a change.
-use Rattle.std.proofs.Common.{◌≡◌, ◌∙◌, ℕ, ◌*◌, ◌<◌, ◌≤◌, Bool, true, false, List, [], ◌++◌, Some, length, take, filter, append_assoc, sym, ap, subst, arith}
+use Rattle.std.proofs.Common.{◌≡◌, ◌∙◌, ℕ, ◌*◌, ◌<◌, ◌≤◌, Bool, true, false, List, [], ◌++◌, Option, Some, length, take, filter, append_assoc, sym, ap, subst, arith}
 use Rattle.std.proofs.lemmas.Bool.{false≢true}
 use Rattle.std.proofs.lemmas.List.{take-append-le}
 use Rattle.big_atomic.proofs.Answered.{goes_of}
@@ -12,9 +12,9 @@ use Rattle.big_atomic.specs.Calling.{Goes, Paces}
 use Rattle.big_atomic.specs.Turns.{exchanges, scan_loads}
 use Rattle.cache_hash.proofs.Keyed.{keeps_same, keeps_then}
 use Rattle.cache_hash.proofs.Walking.{OnlyLooks}
-use Rattle.cache_hash.specs.Asking.{NeverChanges, call_for}
+use Rattle.cache_hash.specs.Asking.{AreInserts, AsksFor, NoneChanges}
 use Rattle.cache_hash.specs.Calls.{NeedsNodes, WantsNodes}
-use Rattle.cache_hash.specs.Changing.{Changing, KeepsFree, Scans}
+use Rattle.cache_hash.specs.Changing.{Begun, Changing, HasCome, KeepsFree, Scans}
 use Rattle.cache_hash.specs.declared.asked.Change.{Change}
 use Rattle.hazard_claims.specs.Scanning.{IsScan, names}
 use Rattle.seat_history.proofs.Histories.{state_at-append}
@@ -49,11 +49,15 @@ needs_more {call} {place} {need} {v} w within on plan n =
       needs = subst (λ (rs : List (List ℕ)). Needs rs call need) (λ i. records_at (sym plan i) (sym front i) (cell_of (sym plan i) call)) n.needs;
     }
 
-pub wants_more : {call : Call} {look last : ℕ} {before : SeatData} {v : View} (w : View) → length v.seen ≤ last → GoesOn v.seen w.seen → w.plan ≡ v.plan
-    → WantsNodes call look (length v.seen) before v → WantsNodes call look last before w
+pub wants_more : {due : Call → Type 0} {look last : ℕ} {before : SeatData} {v : View} (w : View) → length v.seen ≤ last → GoesOn v.seen w.seen → w.plan ≡ v.plan
+    → WantsNodes due look (length v.seen) before v → WantsNodes due look last before w
 wants_more {v = v} w until on plan n =
     let within = n.within in
-    record { place = n.place; late = n.late; within = omega arith; need = n.need; needs = needs_more w n.within on plan n.needs; few = n.few }
+    record { call = n.call; is_due = n.is_due; place = n.place; late = n.late; within = omega arith; need = n.need; needs = needs_more w n.within on plan n.needs; few = n.few }
+
+pub wants_as : {due later : Call → Type 0} {look last : ℕ} {before : SeatData} {v : View} → ((call : Call) → due call → later call) → WantsNodes due look last before v
+    → WantsNodes later look last before v
+wants_as into n = record { call = n.call; is_due = into n.call n.is_due; place = n.place; late = n.late; within = n.within; need = n.need; needs = n.needs; few = n.few }
 
 -- a scan stays among the steps
 abbrev pub scanned_more : {a : List Counted} {v : View} (w : View) (b : List Counted) → number w ≡ number v → held_by w.seen (number w) w.stands ≡ held_by v.seen (number v) v.stands
@@ -68,24 +72,24 @@ scanned_more w b least held hold plan s = record {
 }
 
 -- MORE STEPS of the call, none of a scan, after which the seat holds no node. So many claims serve before them, and so many after them
-pub record Onward (from to : ℕ) (key : KeyWords) (change : Change) (cell : ℕ) (b : List Counted) (mid now : SeatData) : Type 0 where
-  pub goes : Goes cell (Some (length mid.view.seen)) b mid now
-  pub paced : Paces from to b
+pub record Onward (from to : ℕ) (key : KeyWords) (among : Option (List ℕ) → Change → Type 0) (cell : ℕ) (steps : List Counted) (mid now : SeatData) : Type 0 where
+  pub goes : Goes cell (Some (length mid.view.seen)) steps mid now
+  pub paced : Paces from to steps
   pub idle : mid.holding ≡ [] → now.holding ≡ []
   pub used : now.fresh ≡ false
   pub hold : claim_of HOLD now.view ≡ claim_of HOLD mid.view
   pub own : (claim_of OWN mid.view).word ≡ 0 → (claim_of OWN now.view).word ≡ 0
   pub retired : now.view.retired ≡ mid.view.retired
-  pub none_scanned : scan_loads b ≡ 0
-  pub free : exchanges b ≡ 0 → KeepsFree (call_for key change) mid.free now.free
-  pub never : NeverChanges change → exchanges b ≡ 0
+  pub none_scanned : scan_loads steps ≡ 0
+  pub free : exchanges steps ≡ 0 → KeepsFree (AreInserts key among) mid.free now.free
+  pub never : NoneChanges among → exchanges steps ≡ 0
 
-pub scans_on : {from to : ℕ} {key : KeyWords} {change : Change} {cell : ℕ} {b : List Counted} {mid now : SeatData} (scanned : Bool) (call : Call) (steps : List Counted) (look : ℕ) (before : SeatData)
-    → Sound mid.view → Onward from to key change cell b mid now → Scans scanned call steps look before mid → Scans scanned call (steps ++ b) look before now
-scans_on {b = b} false call steps look before sound o s =
+pub scans_on : {from to : ℕ} {key : KeyWords} {among : Option (List ℕ) → Change → Type 0} {cell : ℕ} {b : List Counted} {mid now : SeatData} (scanned : Bool) (due : Call → Type 0) (steps : List Counted) (look : ℕ)
+    (before : SeatData) → Sound mid.view → Onward from to key among cell b mid now → Scans scanned due steps look before mid → Scans scanned due (steps ++ b) look before now
+scans_on {b = b} false due steps look before sound o s =
     let none = o.none_scanned in
     let none_before = s.none in record { none = omega (arith, scan_loads-append steps b); retired = o.retired ∙ s.retired }
-scans_on {b = b} {mid = mid} {now = now} true call steps look before sound o s =
+scans_on {b = b} {mid = mid} {now = now} true due steps look before sound o s =
     let none = o.none_scanned in
     let all = s.all in
     let few = s.few in record {
@@ -96,11 +100,11 @@ scans_on {b = b} {mid = mid} {now = now} true call steps look before sound o s =
       want = wants_more now.view (longer_seen mid.view.seen now.view.seen o.goes.seen) o.goes.seen (ap (λ (z : View). z.plan) o.goes.only) s.want;
     }
 
-module _ {shared : ObjectData} {key : KeyWords} {change : Change} {cell : ℕ} {scanned : Bool} {before mid : SeatData} (i : Changing shared key change cell scanned before mid) where
-  abbrev pub going_on : {from to : ℕ} {b : List Counted} {now : SeatData} → Paces 0 from i.steps → Onward from to key change cell b mid now → to ≤ 1
-      → Changing shared key change cell scanned before now
+module _ {shared : ObjectData} {key : KeyWords} {begun : Begun shared key} {cell : ℕ} {scanned : Bool} {mid : SeatData} (i : Changing begun cell scanned mid) where
+  abbrev pub going_on : {from to : ℕ} {b : List Counted} {now : SeatData} → Paces 0 from i.steps → Onward from to key (HasCome begun.came) cell b mid now → to ≤ 1
+      → Changing begun cell scanned now
   going_on {b = b} {now = now} paced o serve = record {
-    begins = i.begins;
+    cell_is = i.cell_is;
     steps = i.steps ++ b;
     look = i.look;
     goes = goes_then i.goes o.goes;
@@ -110,18 +114,18 @@ module _ {shared : ObjectData} {key : KeyWords} {change : Change} {cell : ℕ} {
     used = o.used;
     hold = o.hold ∙ i.hold;
     own = o.own i.own;
-    scans = scans_on scanned (call_for key change) i.steps i.look before i.goes.sound o i.scans;
+    scans = scans_on scanned (AsksFor key (HasCome begun.came)) i.steps i.look begun.before i.goes.sound o i.scans;
     untouched = λ none none_tried.
         let both = exchanges-append i.steps b in keeps_then (i.untouched none (omega arith)) (o.free (omega arith));
     never = λ never. let none_before = i.never never in let none_after = o.never never in omega (arith, exchanges-append i.steps b);
   }
 
   pub going_of : IsOf shared mid
-  going_of = goes_of i.goes i.begins.ready.ours
+  going_of = goes_of i.goes begun.ready.ours
 
 -- looks and loads
-pub looks_onward : {from to cell : ℕ} {b : List Counted} {mid now : SeatData} (key : KeyWords) (change : Change) → OnlyLooks from to cell b mid now → Onward from to key change cell b mid now
-looks_onward key change p = record {
+pub looks_onward : {from to cell : ℕ} {b : List Counted} {mid now : SeatData} (key : KeyWords) (among : Option (List ℕ) → Change → Type 0) → OnlyLooks from to cell b mid now → Onward from to key among cell b mid now
+looks_onward key among p = record {
   goes = p.goes;
   paced = p.paced;
   idle = λ idle. ap (λ (z : SeatData). z.holding) p.same ∙ idle;
@@ -130,31 +134,30 @@ looks_onward key change p = record {
   own = λ none. ap (λ (x : Claim). x.word) p.own ∙ none;
   retired = p.retired;
   none_scanned = p.looks.none_scanned;
-  free = λ _. keeps_same (call_for key change) (ap (λ (z : SeatData). z.free) p.same);
+  free = λ _. keeps_same (AreInserts key among) (ap (λ (z : SeatData). z.free) p.same);
   never = λ _. p.looks.none_exchanged;
 }
 
 -- A SCAN, for want of nodes
-module _ {shared : ObjectData} {key : KeyWords} {change : Change} {cell : ℕ} {before mid now : SeatData} (i : Changing shared key change cell false before mid) (s : IsScan mid now)
+module _ {shared : ObjectData} {key : KeyWords} {begun : Begun shared key} {cell : ℕ} {mid now : SeatData} (i : Changing begun cell false mid) (s : IsScan mid now)
     (law : IsSeat mid) (last : IsSeat now) where
   -- no node was retired so far, so as many are free as at first
-  pub free_still : length mid.free ≡ length before.free
+  pub free_still : length mid.free ≡ length begun.before.free
   free_still =
       let stock = i.goes.stock in
       let long = law.long in
-      let first = i.begins.ready.law.long in
-      omega (arith, ap (length {A = ℕ}) i.idle, ap (length {A = ℕ}) i.begins.ready.idle, ap (length {A = ℕ}) i.scans.retired)
+      let first = begun.ready.law.long in
+      omega (arith, ap (length {A = ℕ}) i.idle, ap (length {A = ℕ}) begun.ready.idle, ap (length {A = ℕ}) i.scans.retired)
 
-  abbrev pub after_scan : {need : ℕ} → (claim_of BACK mid.view).stands ≡ true → NeedsNodes (call_for key change) (length mid.view.seen) need mid.view
-      → length mid.free < need
-      → Changing shared key change cell true before now
-  after_scan {need} back needs few =
+  abbrev pub after_scan : {call : Call} {need : ℕ} → AsksFor key (HasCome begun.came) call → (claim_of BACK mid.view).stands ≡ true → NeedsNodes call (length mid.view.seen) need mid.view → length mid.free < need
+      → Changing begun cell true now
+  after_scan {call} {need} due back needs few =
       let view = scan_view s law last in
       let g : Goes cell (Some (length mid.view.seen)) (s.clear ++ s.loads) mid now = scan_goes s law last cell in
-      let seats : mid.view.plan.seats ≡ before.view.plan.seats = ap (λ (z : View). z.plan.seats) i.goes.only in
+      let seats : mid.view.plan.seats ≡ begun.before.view.plan.seats = ap (λ (z : View). z.plan.seats) i.goes.only in
       let none = i.scans.none in
       let few_retired = s.few in record {
-        begins = i.begins;
+        cell_is = i.cell_is;
         steps = i.steps ++ (s.clear ++ s.loads);
         look = i.look;
         goes = goes_then i.goes g;
@@ -165,11 +168,13 @@ module _ {shared : ObjectData} {key : KeyWords} {change : Change} {cell : ℕ} {
         hold = s.claims HOLD (λ e. absurd (omega arith)) ∙ i.hold;
         own = ap (λ (x : Claim). x.word) (s.claims OWN (λ e. absurd (omega arith))) ∙ i.own;
         scans = record {
-          scan = scanned_now s law last i.steps (own_words s law last back i.own (hold_word i.begins.ready i.begins.ready.law.sound i.goes i.hold));
+          scan = scanned_now s law last i.steps (own_words s law last back i.own (hold_word begun.ready begun.ready.law.sound i.goes i.hold));
           all = omega (arith, scan_loads-append i.steps (s.clear ++ s.loads), scan_all s law last);
           retired = s.retired ∙ ap (filter (λ n. names n s.loads)) i.scans.retired;
           few = omega arith;
           want = wants_more now.view (longer_seen mid.view.seen now.view.seen g.seen) g.seen (ap (λ (z : View). z.plan) g.only) (record {
+            call = call;
+            is_due = due;
             place = length mid.view.seen;
             late = i.looked.upto;
             within = omega arith;

@@ -1,6 +1,6 @@
 -- The turns of a change, from one claim of its bucket's node to the next.
-use Rattle.std.proofs.Common.{◌≡◌, ◌∙◌, ℕ, ◌+◌, ◌*◌, ◌-◌, ◌/◌, ◌^◌, ◌<◌, ◌≤◌, Bool, true, false, List, ◌++◌}
-use Rattle.std.proofs.Common.{Option, None, Some, length, take, drop, refl, sym, ap, subst, arith, ◌⊎◌, inl, ⊎_elim, is_some}
+use Rattle.std.proofs.Common.{◌≡◌, ◌∙◌, ℕ, ◌+◌, ◌*◌, ◌-◌, ◌/◌, ◌^◌, ◌<◌, ◌≤◌, Bool, true, false, List, [], ◌∷◌, ◌++◌}
+use Rattle.std.proofs.Common.{Option, None, Some, length, take, drop, refl, sym, ap, subst, arith, ◌⊎◌, inl, inr, ⊎_elim, is_some}
 use Rattle.chain_links.proofs.Another.{none_of_on}
 use Rattle.std.proofs.Math.Nat.{le-max_right}
 use Rattle.std.proofs.lemmas.Bool.{false≢true}
@@ -14,11 +14,12 @@ use Rattle.big_atomic.specs.Marks.{HasTurn}
 use Rattle.big_atomic.specs.Ready.{IsReady}
 use Rattle.cache_hash.proofs.Finding.{OnWay, has_back, longer, seen_part, value_of_records, way_counts, way_end, way_found, way_lost}
 use Rattle.cache_hash.proofs.Keyed.{changes_by, keeps_same, on_key, there_for, tries_then}
-use Rattle.cache_hash.proofs.Progress.{Onward, after_scan, going_on, looks_onward}
-use Rattle.cache_hash.specs.Asking.{Decides, call_for, would_change}
+use Rattle.cache_hash.proofs.Progress.{Onward, after_scan, going_on, looks_onward, wants_as}
+use Rattle.cache_hash.specs.Asking.{AreInserts, AsksFor, Decides, call_for, would_change}
 use Rattle.cache_hash.specs.Calls.{NeedsNodes, value_at}
-use Rattle.cache_hash.specs.Changing.{Begins, Changing, HasDecided, HasLostTurn, HasTried, HasTurned, IsAtTurn, IsDue, KnowsChain, KnowsEnd, MakesRoom, MayMake}
+use Rattle.cache_hash.specs.Changing.{Begun, CameBy, Changing, HasCome, HasDecided, HasLostTurn, MayAsk, Scans, TurnsBy, HasTried, HasTurned, IsAtTurn, IsDue, KnowsChain, KnowsEnd, MakesRoom, MayMake}
 use Rattle.cache_hash.specs.Changing.MakesRoom.{scans, stays}
+use Rattle.big_atomic.specs.declared.starting.Start.{Start}
 use Rattle.cache_hash.specs.declared.asked.Change.{Change}
 use Rattle.cache_hash.specs.declared.asked.Decision.{Decision}
 use Rattle.cache_hash.specs.declared.asked.Decision.TheVariants.{Changes, Stays}
@@ -53,25 +54,69 @@ use Rattle.step_rules.specs.declared.view.Claim.{Claim}
 use Rattle.step_rules.specs.declared.view.Counted.{Counted}
 use Rattle.step_rules.specs.declared.view.View.{View}
 
--- THE FIRST CLAIM
-pub begins_change : {shared : ObjectData} {before : SeatData} (key : KeyWords) (change : Change) (cell : ℕ) → IsReady shared before → 0 < shared.plan.buckets → 0 < before.view.changes
-    → removes_of (call_for key change) ≤ before.view.removes → IsWide (call_for key change) → cell ≡ key_cell shared.plan (key_number key) → Begins shared key change cell before
-begins_change key change cell ready some left removes wide is = record {
-  ready = ready;
-  some = subst (λ (p : Plan). 0 < p.buckets) (sym ready.ours.plan) some;
-  cell_is = ap (λ (p : Plan). key_cell p (key_number key)) ready.ours.plan ∙ sym is;
-  left = left;
-  removes = removes;
-  wide = wide;
-}
+-- THE CALL BEGINS
+abbrev pub begins : {shared : ObjectData} {before : SeatData} (key : KeyWords) → IsReady shared before → 0 < shared.plan.buckets → 0 < before.view.changes → Begun shared key
+begins {before = before} key ready some left =
+    record { before = before; came = []; ready = ready; some = subst (λ (p : Plan). 0 < p.buckets) (sym ready.ours.plan) some; left = left }
 
-pub first_turn : {shared : ObjectData} {key : KeyWords} {change : Change} {cell version word : ℕ} {before now : SeatData}
-    → Begins shared key change cell before → HasStarted cell version word before now
-    → IsAtTurn shared key change cell version word false before now
-first_turn {key = key} {change = change} b h = let s = h.0.0 in record {
+pub may_ask : {key : KeyWords} {change : Change} {before old : SeatData} → removes_of (call_for key change) ≤ old.view.removes → IsWide (call_for key change) → before ≡ old
+    → MayAsk key change before
+may_ask {key} {change} {before} {old} removes wide began =
+    record { removes = subst (λ (z : SeatData). removes_of (call_for key change) ≤ z.view.removes) (sym began) removes; wide = wide }
+
+-- it comes to a change more
+module _ {shared : ObjectData} {key : KeyWords} (b : Begun shared key) (there : Option (List ℕ)) (change : Change) where
+  abbrev pub come_to : Begun shared key
+  come_to = record { before = b.before; came = (there, change) ∷ b.came; ready = b.ready; some = b.some; left = b.left }
+
+  pub come_by : (among : Option (List ℕ) → Change → Type 0) → among there change → CameBy among b → CameBy among come_to
+  come_by among this by other made come =
+      ⊎_elim (λ is. subst (λ (z : Option (List ℕ) × Change). among z.0 z.1) (λ j. (sym is.0 j, sym is.1 j)) this) (λ before. by other made before) come
+
+  pub inserts_before : AreInserts key (HasCome come_to.came) → AreInserts key (HasCome b.came)
+  inserts_before all other made come = all other made (inr come)
+
+  pub scans_too : (scanned : Bool) (steps : List Counted) (look : ℕ) (now : SeatData) → Scans scanned (AsksFor key (HasCome b.came)) steps look b.before now
+      → Scans scanned (AsksFor key (HasCome come_to.came)) steps look b.before now
+  scans_too false steps look now s = s
+  scans_too true steps look now s = record {
+    scan = s.scan;
+    all = s.all;
+    retired = s.retired;
+    few = s.few;
+    want = wants_as (λ call asks. (asks.0, asks.1, inr asks.2, asks.3)) s.want;
+  }
+
+  abbrev pub tried_too : {cell : ℕ} {scanned : Bool} {now : SeatData} → HasTried b cell scanned now → HasTried come_to cell scanned now
+  tried_too {scanned = scanned} {now = now} t = record {
+    going = record {
+      cell_is = t.going.cell_is;
+      steps = t.going.steps;
+      look = t.going.look;
+      goes = t.going.goes;
+      looked = t.going.looked;
+      paced = t.going.paced;
+      idle = t.going.idle;
+      used = t.going.used;
+      hold = t.going.hold;
+      own = t.going.own;
+      scans = scans_too scanned t.going.steps t.going.look now t.going.scans;
+      untouched = λ none none_tried. let kept = t.going.untouched none none_tried in record { nodes = kept.nodes; order = λ all. kept.order (inserts_before all) };
+      never = λ never. t.going.never (λ other made come. never other made (inr come));
+    };
+    tried = λ yes. let tries = t.tried yes in record { tried = tries.tried; exchanged = λ all. tries.exchanged (inserts_before all) };
+  }
+
+-- THE FIRST CLAIM
+pub cell_first : {shared : ObjectData} {key : KeyWords} (b : Begun shared key) (cell : ℕ) → cell ≡ key_cell shared.plan (key_number key) → key_cell b.before.view.plan (key_number key) ≡ cell
+cell_first {key = key} b cell is = ap (λ (p : Plan). key_cell p (key_number key)) b.ready.ours.plan ∙ sym is
+
+pub first_turn : {shared : ObjectData} {key : KeyWords} {cell : ℕ} {start : Start} {now : SeatData} (b : Begun shared key) → cell ≡ key_cell shared.plan (key_number key)
+    → HasStarted cell start.version start.word b.before now → IsAtTurn b cell start false now
+first_turn {key = key} {cell = cell} b is h = let s = h.0.0 in record {
   so_far = record {
     going = record {
-      begins = b;
+      cell_is = cell_first b cell is;
       steps = s.steps;
       look = s.look;
       goes = s.goes None;
@@ -82,7 +127,7 @@ first_turn {key = key} {change = change} b h = let s = h.0.0 in record {
       hold = s.stays.others HOLD (λ e. absurd (omega arith));
       own = ap (λ (x : Claim). x.word) (s.stays.others OWN (λ e. absurd (omega arith))) ∙ b.ready.own;
       scans = record { none = s.looks.none_scanned; retired = s.stays.retired };
-      untouched = λ none none_tried. keeps_same (call_for key change) (ap (λ (z : SeatData). z.free) s.stays.same);
+      untouched = λ none none_tried. keeps_same (AreInserts key (HasCome b.came)) (ap (λ (z : SeatData). z.free) s.stays.same);
       never = λ never. s.looks.none_exchanged;
     };
     tried = λ yes. absurd (false≢true yes);
@@ -93,58 +138,68 @@ first_turn {key = key} {change = change} b h = let s = h.0.0 in record {
 
 -- A FURTHER ONE
 -- what was tried stays so
-abbrev tried_more : {shared : ObjectData} {key : KeyWords} {change : Change} {cell from to : ℕ} {scanned : Bool} {before mid now : SeatData} {b : List Counted}
-    (t : HasTried shared key change cell scanned before mid) → Paces 0 from t.going.steps → Onward from to key change cell b mid now → to ≤ 1 → HasTried shared key change cell scanned before now
-tried_more {key = key} {change = change} {b = b} t paced o serve = record {
+abbrev tried_more : {shared : ObjectData} {key : KeyWords} {b : Begun shared key} {cell from to : ℕ} {scanned : Bool} {mid now : SeatData} {steps : List Counted}
+    (t : HasTried b cell scanned mid) → Paces 0 from t.going.steps → Onward from to key (HasCome b.came) cell steps mid now → to ≤ 1 → HasTried b cell scanned now
+tried_more {steps = steps} t paced o serve = record {
   going = going_on t.going paced o serve;
-  tried = λ yes. tries_then t.going.steps b (t.tried yes);
+  tried = λ yes. tries_then t.going.steps steps (t.tried yes);
 }
 
-pub next_turn : {shared : ObjectData} {key : KeyWords} {change : Change} {cell version word : ℕ} {scanned : Bool} {before old mid now : SeatData}
-    → HasLostTurn shared key change cell scanned before old mid
-    → HasStarted cell version word mid now → IsAtTurn shared key change cell version word scanned before now
-next_turn {key = key} {change = change} {cell = cell} {word = word} {mid = mid} {now = now} l h =
+pub next_turn : {shared : ObjectData} {key : KeyWords} {b : Begun shared key} {cell : ℕ} {start : Start} {scanned : Bool} {old mid now : SeatData} → HasLostTurn b cell scanned old mid
+    → HasStarted cell start.version start.word mid now → IsAtTurn b cell start scanned now
+next_turn {key = key} {b = b} {cell = cell} {start = start} {mid = mid} {now = now} l h =
     record {
-      so_far = tried_more l.so_far l.paced (looks_onward key change (seen_part cell word mid now h.0.0)) (omega arith);
+      so_far = tried_more l.so_far l.paced (looks_onward key (HasCome b.came) (seen_part cell start.word mid now h.0.0)) (omega arith);
       turn = turn_behind l.so_far.going.steps h.0.0.steps h.1;
       claim = h.0.1;
     }
 
-pub turn_smaller : {shared : ObjectData} {key : KeyWords} {change : Change} {cell version word next_version next : ℕ} {scanned made : Bool} {before last mid now : SeatData}
-    → IsAtTurn shared key change cell version word scanned before last → HasLostTurn shared key change cell made before last mid
-    → HasStarted cell next_version next mid now
+pub turn_smaller : {shared : ObjectData} {key : KeyWords} {b after : Begun shared key} {cell : ℕ} {start next : Start} {scanned made : Bool} {last mid now : SeatData}
+    → IsAtTurn b cell start scanned last → after.before ≡ b.before → HasLostTurn after cell made last mid → HasStarted cell next.version next.word mid now
     → now.view.plan.seats * now.view.plan.changes - length now.view.seen < last.view.plan.seats * last.view.plan.changes - length last.view.seen
-turn_smaller {cell = cell} {last = last} {mid = mid} {now = now} at l h =
+turn_smaller {cell = cell} {last = last} {mid = mid} {now = now} at same l h =
     let g : Goes cell None h.0.0.steps mid now = h.0.0.goes None in
     let further = longer_seen mid.view.seen now.view.seen g.seen in
     let more = l.longer in
     let within = g.sound.within in
     let plan : now.view.plan ≡ last.view.plan =
-    ap (λ (z : View). z.plan) g.only ∙ (ap (λ (z : View). z.plan) l.so_far.going.goes.only ∙ sym (ap (λ (z : View). z.plan) at.so_far.going.goes.only)) in
+    ap (λ (z : View). z.plan) g.only ∙ (ap (λ (z : View). z.plan) l.so_far.going.goes.only ∙ (ap (λ (z : SeatData). z.view.plan) same ∙ sym (ap (λ (z : View). z.plan) at.so_far.going.goes.only))) in
     let all = ap (λ (p : Plan). p.seats * p.changes) plan in omega arith
 
 -- A TURN'S WALK
-module _ {shared : ObjectData} {key : KeyWords} {change : Change} {cell version word : ℕ} {scanned : Bool} {before mid : SeatData}
-    (t : IsAtTurn shared key change cell version word scanned before mid) where
-  abbrev i : Changing shared key change cell scanned before mid
+-- by the change that the turn came to this is decided
+pub record DecidesBy {shared : ObjectData} {key : KeyWords} (among : Option (List ℕ) → Change → Type 0) (b : Begun shared key) (cell : ℕ) (start : Start) (change : Change) (decision : Decision)
+    (scanned : Bool) (last : SeatData) : Type 0 where
+  pub now : Begun shared key
+  pub same : now.before ≡ b.before
+  pub by : CameBy among now
+  pub decided : HasDecided now cell start change decision scanned last
+
+module _ {shared : ObjectData} {key : KeyWords} {b : Begun shared key} {cell : ℕ} {start : Start} {scanned : Bool} {mid : SeatData} (t : IsAtTurn b cell start scanned mid) where
+  abbrev word : ℕ
+  word = start.word
+
+  abbrev i : Changing b cell scanned mid
   i = t.so_far.going
 
   pub turn_back : HasBack cell mid.view
   turn_back = has_back cell word mid t.claim
 
-  plan : mid.view.plan ≡ before.view.plan
+  plan : mid.view.plan ≡ b.before.view.plan
   plan = ap (λ (z : View). z.plan) i.goes.only
 
   cell_now : cell ≡ key_cell mid.view.plan (key_number key)
-  cell_now = sym (ap (λ (p : Plan). key_cell p (key_number key)) plan ∙ i.begins.cell_is)
+  cell_now = sym (ap (λ (p : Plan). key_cell p (key_number key)) plan ∙ i.cell_is)
 
-  -- the walk's end, and what is decided there
-  decided : {found : Option (List ℕ)} {now : SeatData} (decision : Decision) → OnWay cell word key found mid now → IsSeat now → Decides key change found (claimed_records now.view) decision
-      → HasDecided shared key change cell version word decision scanned before now
-  decided {found} {now} decision o law decides = record {
-    so_far = tried_more t.so_far i.paced (looks_onward key change o.way.part) (omega arith);
+  -- the walk's end, and what is decided there by the change that the turn comes to
+  decided : (change : Change) → MayAsk key change b.before → (decision : Decision) {found : Option (List ℕ)} {now : SeatData} → OnWay cell word key found mid now → IsSeat now → Decides key change found (claimed_records now.view) decision
+      → HasDecided (come_to b found change) cell start change decision scanned now
+  decided change may decision {found} {now} o law decides = record {
+    so_far = tried_too b found change (tried_more t.so_far i.paced (looks_onward key (HasCome b.came) o.way.part) (omega arith));
     turn = turn_more i.steps o.way.steps o.way.kept t.turn;
+    may = may;
     found = found;
+    asked = inl (refl, refl);
     chain = record {
       near = record { word = o.way.word; found = o.way.found; near = o.way.near ∙ sym o.near; fell = o.way.fell };
       stands = subst (λ (x : Claim). On x (word / 2)) (sym o.way.back) t.claim.stands;
@@ -158,18 +213,26 @@ module _ {shared : ObjectData} {key : KeyWords} {change : Change} {cell version 
     decides = decides;
   }
 
-  pub turn_found : (at : ℕ) (there : List ℕ) (decision : Decision) (now : SeatData) → IsSeat now → IsWalked cell key (Found at there) mid now
-      → ((rs : List (List ℕ)) → place_in rs (key_number key) ≡ at → Decides key change (Some there) rs decision)
-      → HasDecided shared key change cell version word decision scanned before now
-  turn_found at there decision now law w decides =
-      let o = way_found cell word key mid now t.claim cell_now at there w in
-      decided decision o law (decides (claimed_records now.view) (ap (λ (x : Claim). place_in (records_of x.pages) (key_number key)) o.way.back ∙ w.says.1))
+  module _ {among : Option (List ℕ) → Change → Type 0} (by : CameBy among b) (change : Change) (may : MayAsk key change b.before) (decision : Decision) where
+    pub turn_found : (at : ℕ) (there : List ℕ) (now : SeatData) → among (Some there) change → IsSeat now → IsWalked cell key (Found at there) mid now
+        → ((rs : List (List ℕ)) → place_in rs (key_number key) ≡ at → Decides key change (Some there) rs decision) → DecidesBy among b cell start change decision scanned now
+    turn_found at there now this law w decides =
+        let o = way_found cell word key mid now t.claim cell_now at there w in record {
+          now = come_to b (Some there) change;
+          same = refl;
+          by = come_by b (Some there) change among this by;
+          decided = decided change may decision o law (decides (claimed_records now.view) (ap (λ (x : Claim). place_in (records_of x.pages) (key_number key)) o.way.back ∙ w.says.1));
+        }
 
-  pub turn_end : (count : ℕ) (decision : Decision) (now : SeatData) → IsSeat now → IsWalked cell key (End count) mid now
-      → ((rs : List (List ℕ)) → length rs ≡ count → Decides key change None rs decision)
-      → HasDecided shared key change cell version word decision scanned before now
-  turn_end count decision now law w decides = decided decision (way_end cell word key mid now t.claim cell_now count w) law
-      (decides (claimed_records now.view) (way_counts cell word key mid now t.claim cell_now count w))
+    pub turn_end : (count : ℕ) (now : SeatData) → among None change → IsSeat now → IsWalked cell key (End count) mid now
+        → ((rs : List (List ℕ)) → length rs ≡ count → Decides key change None rs decision) → DecidesBy among b cell start change decision scanned now
+    turn_end count now this law w decides = record {
+      now = come_to b None change;
+      same = refl;
+      by = come_by b None change among this by;
+      decided = decided change may decision (way_end cell word key mid now t.claim cell_now count w) law
+          (decides (claimed_records now.view) (way_counts cell word key mid now t.claim cell_now count w));
+    }
 
   pub found_seen : (at : ℕ) (there : List ℕ) (now : SeatData) → IsWalked cell key (Found at there) mid now → length mid.view.seen ≤ length now.view.seen
   found_seen at there now w = longer_seen mid.view.seen now.view.seen (way_found cell word key mid now t.claim cell_now at there w).way.part.goes.seen
@@ -194,106 +257,122 @@ module _ {shared : ObjectData} {key : KeyWords} {change : Change} {cell version 
         nodes_low mid.view.plan i.goes.sound.plan,
       )
 
-  pub turn_lost : (now : SeatData) → IsWalked cell key Moved mid now → HasLostTurn shared key change cell scanned before mid now
-  turn_lost now w =
+  pub turn_lost : {among : Option (List ℕ) → Change → Type 0} → CameBy among b → (now : SeatData) → IsWalked cell key Moved mid now → TurnsBy among b cell (TurnMoved scanned) mid now
+  turn_lost by now w =
       let l = way_lost cell word key mid now t.claim cell_now w in record {
-        so_far = tried_more t.so_far i.paced (looks_onward key change l.part) (omega arith);
-        paced = paces_then i.paced l.part.paced;
-        longer = longer cell mid now l;
+        now = b;
+        same = refl;
+        by = by;
+        turned = record {
+          so_far = tried_more t.so_far i.paced (looks_onward key (HasCome b.came) l.part) (omega arith);
+          paced = paces_then i.paced l.part.paced;
+          longer = longer cell mid now l;
+        };
       }
 
 -- so it ends as a turn that began earlier
-pub ends_from : (shared : ObjectData) (key : KeyWords) (change : Change) (cell : ℕ) (turn : Turn) (before first mid now : SeatData) → length first.view.seen ≤ length mid.view.seen
-    → HasTurned shared key change cell turn before mid now → HasTurned shared key change cell turn before first now
-ends_from shared key change cell (Ends told) before first mid now low t = t
-ends_from shared key change cell (TurnMoved made) before first mid now low l = let more = l.longer in record { so_far = l.so_far; paced = l.paced; longer = omega arith }
+pub ends_from : {shared : ObjectData} {key : KeyWords} (b : Begun shared key) (cell : ℕ) (turn : Turn) (first mid now : SeatData) → length first.view.seen ≤ length mid.view.seen
+    → HasTurned b cell turn mid now → HasTurned b cell turn first now
+ends_from b cell (Ends told) first mid now low t = t
+ends_from b cell (TurnMoved made) first mid now low l = let more = l.longer in record { so_far = l.so_far; paced = l.paced; longer = omega arith }
+
+-- as goes on what was decided
+pub turns_by : {shared : ObjectData} {key : KeyWords} {among : Option (List ℕ) → Change → Type 0} {b : Begun shared key} {cell : ℕ} {start : Start} {change : Change} {decision : Decision}
+    {scanned : Bool} {mid : SeatData} (turn : Turn) (first now : SeatData) → length first.view.seen ≤ length mid.view.seen → (d : DecidesBy among b cell start change decision scanned mid)
+    → HasTurned d.now cell turn mid now → TurnsBy among b cell turn first now
+turns_by {cell = cell} {mid = mid} turn first now low d turned = record { now = d.now; same = d.same; by = d.by; turned = ends_from d.now cell turn first mid now low turned }
 
 -- WHAT IS KNOWN of the key's value at the end of what is seen
-module _ {shared : ObjectData} {key : KeyWords} {change : Change} {cell word : ℕ} {scanned : Bool} {found : Option (List ℕ)} {before now : SeatData}
-    (i : Changing shared key change cell scanned before now) (chain : KnowsChain key cell word found now) where
+module _ {shared : ObjectData} {key : KeyWords} {b : Begun shared key} {cell word : ℕ} {scanned : Bool} {found : Option (List ℕ)} {now : SeatData}
+    (i : Changing b cell scanned now) (chain : KnowsChain key cell word found now) where
   abbrev v : View
   v = now.view
 
-  abbrev call : Call
-  call = call_for key change
-
   cell_is : cell ≡ key_cell v.plan (key_number key)
-  cell_is = sym (ap (λ (z : View). key_cell z.plan (key_number key)) i.goes.only ∙ i.begins.cell_is)
+  cell_is = sym (ap (λ (z : View). key_cell z.plan (key_number key)) i.goes.only ∙ i.cell_is)
 
   pub value_known : value_at v (length v.seen) key ≡ found
   value_known = value_of_records cell key v found i.goes.sound cell_is chain.records chain.value
 
-  whole : found_at v.plan v.seen (length v.seen) call ≡ claimed_records v
-  whole = (λ j. records_at v.plan (take_all (length v.seen) v.seen (omega arith) j) ((on_key key change v.plan ∙ sym cell_is) j)) ∙ chain.records
+  -- and of what a change of it needs
+  module _ (change : Change) where
+    abbrev call : Call
+    call = call_for key change
 
-  pub need_known : {needed : ℕ} → needed ≡ need_of (length (claimed_records v)) (edit_of (claimed_records v) call) → needed ≡ need_at v.plan v.seen (length v.seen) call
-  need_known is = is ∙ ap (λ (rs : List (List ℕ)). need_of (length rs) (edit_of rs call)) (sym whole)
+    whole : found_at v.plan v.seen (length v.seen) call ≡ claimed_records v
+    whole = (λ j. records_at v.plan (take_all (length v.seen) v.seen (omega arith) j) ((on_key key change v.plan ∙ sym cell_is) j)) ∙ chain.records
 
-  pub needs_known : {needed : ℕ} → would_change change found ≡ true → needed ≡ need_of (length (claimed_records v)) (edit_of (claimed_records v) call) → NeedsNodes call (length v.seen) needed v
-  needs_known {needed} changes is =
-      let changes_now : is_change (state_at v.seen (length v.seen)) call ≡ true =
-      changes_by key change (state_at v.seen (length v.seen)) ∙ (ap (would_change change) value_known ∙ changes) in
-      let all : take (length v.seen) v.seen ≡ v.seen = take_all (length v.seen) v.seen (omega arith) in
-      let some : 0 < v.plan.buckets = subst (λ (p : Plan). 0 < p.buckets) (sym (ap (λ (z : View). z.plan) i.goes.only)) i.begins.some in record {
-        changes = changes_now;
-        needs = subst (λ (z : List (List ℕ) × ℕ). Needs z.0 call z.1)
-            (λ j. (records_at v.plan (sym all j) (cell_of v.plan call), (ap (λ (l : List Entry). need_in v.plan l call) (sym all) ∙ sym (need_known is)) j))
-            (need_told v.plan v.seen call i.goes.sound.history (there_for key change v.plan some) changes_now);
-      }
+    pub need_known : {needed : ℕ} → needed ≡ need_of (length (claimed_records v)) (edit_of (claimed_records v) call) → needed ≡ need_at v.plan v.seen (length v.seen) call
+    need_known is = is ∙ ap (λ (rs : List (List ℕ)). need_of (length rs) (edit_of rs call)) (sym whole)
+
+    pub needs_known : {needed : ℕ} → would_change change found ≡ true → needed ≡ need_of (length (claimed_records v)) (edit_of (claimed_records v) call) → NeedsNodes call (length v.seen) needed v
+    needs_known {needed} changes is =
+        let changes_now : is_change (state_at v.seen (length v.seen)) call ≡ true =
+        changes_by key change (state_at v.seen (length v.seen)) ∙ (ap (would_change change) value_known ∙ changes) in
+        let all : take (length v.seen) v.seen ≡ v.seen = take_all (length v.seen) v.seen (omega arith) in
+        let some : 0 < v.plan.buckets = subst (λ (p : Plan). 0 < p.buckets) (sym (ap (λ (z : View). z.plan) i.goes.only)) b.some in record {
+          changes = changes_now;
+          needs = subst (λ (z : List (List ℕ) × ℕ). Needs z.0 call z.1)
+              (λ j. (records_at v.plan (sym all j) (cell_of v.plan call), (ap (λ (l : List Entry). need_in v.plan l call) (sym all) ∙ sym (need_known is)) j))
+              (need_told v.plan v.seen call i.goes.sound.history (there_for key change v.plan some) changes_now);
+        }
 
 -- NO CHANGE is to be made
-pub stays_known : {shared : ObjectData} {key : KeyWords} {change : Change} {cell version word : ℕ} {decision : Decision} {scanned : Bool} {before now : SeatData} (there : Option (List ℕ))
-    → decision ≡ Stays there → HasDecided shared key change cell version word decision scanned before now
-    → KnowsEnd shared key change cell (Plain there) before now
-stays_known {key = key} {change = change} {scanned = scanned} {now = now} there is d =
+pub stays_known : {shared : ObjectData} {key : KeyWords} {b : Begun shared key} {cell : ℕ} {start : Start} {change : Change} {decision : Decision} {scanned : Bool} {now : SeatData}
+    (there : Option (List ℕ)) → decision ≡ Stays there → HasDecided b cell start change decision scanned now → KnowsEnd b cell change (Plain there) now
+stays_known {key = key} {b = b} {change = change} {scanned = scanned} {now = now} there is d =
     let decides : Decides key change d.found (claimed_records now.view) (Stays there) = subst (Decides key change d.found (claimed_records now.view)) is d.decides in record {
       scanned = scanned;
       going = d.so_far.going;
+      asked = subst (λ (found : Option (List ℕ)). HasCome b.came found change) (sym (value_known d.so_far.going d.chain)) d.asked;
       knows = (value_known d.so_far.going d.chain ∙ sym decides.0, ap (would_change change) decides.0 ∙ decides.1, d.so_far.tried);
     }
 
 -- A CHANGE is due
-pub is_due : {shared : ObjectData} {key : KeyWords} {change : Change} {cell version word : ℕ} {decision : Decision} {scanned : Bool} {before now : SeatData} (due : Due)
-    → decision ≡ Changes due → HasDecided shared key change cell version word decision scanned before now
-    → IsDue shared key change cell version word due scanned before now
-is_due {key = key} {change = change} {cell = cell} {word = word} {now = now} due is d =
+pub is_due : {shared : ObjectData} {key : KeyWords} {b : Begun shared key} {cell : ℕ} {start : Start} {change : Change} {decision : Decision} {scanned : Bool} {now : SeatData} (due : Due)
+    → decision ≡ Changes due → HasDecided b cell start change decision scanned now → IsDue b cell start change due scanned now
+is_due {key = key} {b = b} {cell = cell} {start = start} {change = change} {now = now} due is d =
     let decides : Decides key change d.found (claimed_records now.view) (Changes due) = subst (Decides key change d.found (claimed_records now.view)) is d.decides in record {
       so_far = d.so_far;
       turn = d.turn;
-      chain = subst (λ (found : Option (List ℕ)). KnowsChain key cell word found now) (sym decides.0) d.chain;
+      may = d.may;
+      asked = subst (λ (found : Option (List ℕ)). HasCome b.came found change) (sym decides.0) d.asked;
+      chain = subst (λ (found : Option (List ℕ)). KnowsChain key cell start.word found now) (sym decides.0) d.chain;
       decides = (refl, ap (would_change change) decides.0 ∙ decides.1, decides.2, decides.3);
     }
 
 -- ROOM
 -- for so many nodes, or after the call's scan
-pub record HasRoom (shared : ObjectData) (key : KeyWords) (change : Change) (cell version word : ℕ) (due : Due) (made : Bool)
-    (before now : SeatData) : Type 0 where
-  pub going : Changing shared key change cell made before now
-  pub turn : HasTurn cell version word going.steps
-  pub chain : KnowsChain key cell word due.there now
+pub record HasRoom {shared : ObjectData} {key : KeyWords} (b : Begun shared key) (cell : ℕ) (start : Start) (change : Change) (due : Due) (made : Bool) (now : SeatData) : Type 0 where
+  pub going : Changing b cell made now
+  pub turn : HasTurn cell start.version start.word going.steps
+  pub may : MayAsk key change b.before
+  pub asked : HasCome b.came due.there change
+  pub chain : KnowsChain key cell start.word due.there now
   pub decides : Decides key change due.there (claimed_records now.view) (Changes due)
   pub room : (made ≡ true) ⊎ (due.need ≤ length now.free)
 
-pub room_made : {shared : ObjectData} {key : KeyWords} {change : Change} {cell version word : ℕ} {due : Due} {scanned made : Bool} {before mid now : SeatData}
-    → IsDue shared key change cell version word due scanned before mid → MakesRoom due.need scanned made mid now → IsSeat now
-    → HasRoom shared key change cell version word due made before now
-room_made {shared} {key} {change} {cell} {version} {word} {due} {scanned} {made} {before} {mid} {now} p (stays same as_before room) law =
-    subst (λ (z : Bool × SeatData). HasRoom shared key change cell version word due z.0 before z.1) (λ j. (sym as_before j, sym same j))
-    (record { going = p.so_far.going; turn = p.turn; chain = p.chain; decides = p.decides; room = room })
-room_made {shared} {key} {change} {cell} {version} {word} {due} {scanned} {made} {before} {mid} {now} p (scans is_made not_scanned few s) law =
+pub room_made : {shared : ObjectData} {key : KeyWords} {b : Begun shared key} {cell : ℕ} {start : Start} {change : Change} {due : Due} {scanned made : Bool} {mid now : SeatData}
+    → IsDue b cell start change due scanned mid → MakesRoom due.need scanned made mid now → IsSeat now → HasRoom b cell start change due made now
+room_made {b = b} {cell = cell} {start = start} {change = change} {due = due} p (stays same as_before room) law =
+    subst (λ (z : Bool × SeatData). HasRoom b cell start change due z.0 z.1) (λ j. (sym as_before j, sym same j))
+    (record { going = p.so_far.going; turn = p.turn; may = p.may; asked = p.asked; chain = p.chain; decides = p.decides; room = room })
+room_made {key = key} {b = b} {cell = cell} {start = start} {change = change} {due = due} {mid = mid} {now = now} p (scans is_made not_scanned few s) law =
     let c = p.chain in
     let view = scan_view s c.law law in
     let back : claim_of BACK now.view ≡ claim_of BACK mid.view = s.claims BACK (λ e. absurd (omega arith)) in
     let records : claimed_records now.view ≡ claimed_records mid.view = ap (λ (x : Claim). records_of x.pages) back in
-    let so_far : (going : Changing shared key change cell false before mid) × HasTurn cell version word going.steps =
-    subst (λ b. (going : Changing shared key change cell b before mid) × HasTurn cell version word going.steps) not_scanned (p.so_far.going, p.turn) in
-    let going : Changing shared key change cell false before mid = so_far.0 in
-    subst (λ b. HasRoom shared key change cell version word due b before now) (sym is_made) (record {
-      going = after_scan going s c.law law c.stands.on (needs_known going c p.decides.1 p.decides.2) few;
+    let so_far : (going : Changing b cell false mid) × HasTurn cell start.version start.word going.steps =
+    subst (λ t. (going : Changing b cell t mid) × HasTurn cell start.version start.word going.steps) not_scanned (p.so_far.going, p.turn) in
+    let going : Changing b cell false mid = so_far.0 in
+    subst (λ t. HasRoom b cell start change due t now) (sym is_made) (record {
+      going = after_scan going s c.law law (due.there, change, p.asked, refl) c.stands.on (needs_known going c change p.decides.1 p.decides.2) few;
       turn = turn_more going.steps (s.clear ++ s.loads) (scan_lost s c.law law) so_far.1;
+      may = p.may;
+      asked = p.asked;
       chain = record {
-        near = subst (λ (z : View). HasNear cell word z) (sym view) (record { word = c.near.word; found = c.near.found; near = c.near.near; fell = c.near.fell });
-        stands = subst (λ (x : Claim). On x (word / 2)) (sym back) c.stands;
+        near = subst (λ (z : View). HasNear cell start.word z) (sym view) (record { word = c.near.word; found = c.near.found; near = c.near.near; fell = c.near.fell });
+        stands = subst (λ (x : Claim). On x (start.word / 2)) (sym back) c.stands;
         cell_is = ap (λ (x : Claim). x.cell) back ∙ c.cell_is;
         records = ap (λ (z : View). records_at z.plan z.seen cell) view ∙ (c.records ∙ sym records);
         value = ap (λ (rs : List (List ℕ)). value_in rs (key_number key)) records ∙ c.value;
@@ -310,20 +389,21 @@ pub room_seen : {needed : ℕ} {scanned made : Bool} {mid now : SeatData} → Ma
 room_seen (stays same as_before room) = omega (arith, ap (λ (z : SeatData). length z.view.seen) same)
 room_seen (scans is_made not_scanned few s) = omega (arith, ap (λ (z : SeatData). length z.view.seen) s.same)
 
-module _ {shared : ObjectData} {key : KeyWords} {change : Change} {cell version word : ℕ} {due : Due} {made : Bool} {before now : SeatData}
-    (r : HasRoom shared key change cell version word due made before now) where
-  pub too_few : (free : ℕ) → free ≡ length now.free → free < due.need → KnowsEnd shared key change cell (Full due.need free) before now
+module _ {shared : ObjectData} {key : KeyWords} {b : Begun shared key} {cell : ℕ} {start : Start} {change : Change} {due : Due} {made : Bool} {now : SeatData}
+    (r : HasRoom b cell start change due made now) where
+  pub too_few : (free : ℕ) → free ≡ length now.free → free < due.need → KnowsEnd b cell change (Full due.need free) now
   too_few free is few = record {
     scanned = made;
     going = r.going;
+    asked = subst (λ (found : Option (List ℕ)). HasCome b.came found change) (sym (value_known r.going r.chain)) r.asked;
     knows = (
-      needs_known r.going r.chain r.decides.1 r.decides.2,
-      need_known r.going r.chain r.decides.2,
+      needs_known r.going r.chain change r.decides.1 r.decides.2,
+      need_known r.going r.chain change r.decides.2,
       ⊎_elim (λ yes. yes) (λ room. absurd (omega arith)) r.room,
       is,
       few,
     );
   }
 
-  pub enough_there : due.need ≤ length now.free → MayMake shared key change cell version word due made before now
-  enough_there enough = record { going = r.going; turn = r.turn; chain = r.chain; decides = r.decides; free = enough }
+  pub enough_there : due.need ≤ length now.free → MayMake b cell start change due made now
+  enough_there enough = record { going = r.going; turn = r.turn; may = r.may; asked = r.asked; chain = r.chain; decides = r.decides; free = enough }

@@ -3,13 +3,15 @@ use Rattle.std.specs.Prelude.{◌≡◌, ⊤, ℕ, ◌&&◌, Bool, true, false, 
 use Rattle.std.specs.Option.{option_map_or}
 use Rattle.big_atomic.specs.Calls.{IsQuiet}
 use Rattle.big_atomic.specs.Turns.{exchanges, scan_loads}
-use Rattle.cache_hash.specs.Calls.{IsKeyChange, value_at}
+use Rattle.cache_hash.specs.Calls.{IsChangeAmong, value_at}
 use Rattle.cache_hash.specs.declared.answers.Insert.{Insert as InsertAnswer}
 use Rattle.cache_hash.specs.declared.answers.Insert.TheVariants.{Done as InsertDone, Present as InsertPresent, Full as InsertFull}
 use Rattle.cache_hash.specs.declared.answers.Remove.{Remove as RemoveAnswer}
 use Rattle.cache_hash.specs.declared.answers.Remove.TheVariants.{Gone as RemoveGone, Absent as RemoveAbsent, Full as RemoveFull}
 use Rattle.cache_hash.specs.declared.answers.Replace.{Replace as ReplaceAnswer}
 use Rattle.cache_hash.specs.declared.answers.Replace.TheVariants.{Yes as ReplaceYes, Found as ReplaceFound, Absent as ReplaceAbsent, Full as ReplaceFull}
+use Rattle.cache_hash.specs.declared.answers.Update.{Update as UpdateAnswer}
+use Rattle.cache_hash.specs.declared.answers.Update.TheVariants.{Done as UpdateDone, Full as UpdateFull}
 use Rattle.cache_hash.specs.declared.asked.Change.{Change}
 use Rattle.cache_hash.specs.declared.asked.Change.TheVariants.{Insert, Replace, Remove}
 use Rattle.cache_hash.specs.declared.asked.Decision.{Decision}
@@ -25,6 +27,8 @@ use Rattle.seat_history.specs.declared.call.Call.TheVariants.{Insert as InsertCa
 use Rattle.seat_history.specs.declared.key.KeyWords.{KeyWords}
 use Rattle.seat_history.specs.declared.reply.Reply.{Reply}
 use Rattle.seat_history.specs.declared.reply.Reply.TheVariants.{Absent, Done, Full as FullReply, Gone, Present}
+use Rattle.seat_history.specs.declared.words.TheConstants.{VALUE_WIDTH}
+use Rattle.step_rules.specs.History.{AreWords}
 use Rattle.step_rules.specs.Lawful.{is_full}
 use Rattle.step_rules.specs.Records.{edit_of, need, place_in}
 use Rattle.step_rules.specs.SeatData.{SeatData}
@@ -78,19 +82,53 @@ HasValue (Full needed free) found = ⊤
 abbrev pub NeverChanges : Change → Type 0
 NeverChanges change = (there : Option (List ℕ)) → would_change change there ≡ false
 
+-- none of these does, whatever the key's value
+abbrev pub NoneChanges : (Option (List ℕ) → Change → Type 0) → Type 0
+NoneChanges among = (there : Option (List ℕ)) (change : Change) → among there change → NeverChanges change
+
 -- the call is an insert, whose copy is never given up
 abbrev pub IsInsert : Call → Type 0
 IsInsert (InsertCall key val) = ⊤
 IsInsert _ = ⊥
 
--- the call has ended
-pub record HasEnded (key : KeyWords) (change : Change) (told : Told) (before after : SeatData) : Type 0 where
-  pub ends : IsKeyChange (call_for key change) (told_reply change told) (told_change change told) before after
+-- each of these is
+abbrev pub AreInserts : KeyWords → (Option (List ℕ) → Change → Type 0) → Type 0
+AreInserts key among = (there : Option (List ℕ)) (change : Change) → among there change → IsInsert (call_for key change)
+
+-- it is this change, whatever the key's value
+abbrev pub Only : Change → Option (List ℕ) → Change → Type 0
+Only change there other = other ≡ change
+
+-- the call asks for a change that these are to be at some value of the key
+abbrev pub AsksFor : KeyWords → (Option (List ℕ) → Change → Type 0) → Call → Type 0
+AsksFor key among call = (there : Option (List ℕ)) × (change : Change) × among there change × (call ≡ call_for key change)
+
+-- a call that is to make these changes, each at a value of the key, has ended by this one, which is one for the key's value at the call's place
+pub record HasEnded (key : KeyWords) (among : Option (List ℕ) → Change → Type 0) (change : Change) (told : Told) (before after : SeatData) : Type 0 where
+  pub ends : IsChangeAmong (AsksFor key among) (call_for key change) (told_reply change told) (told_change change told) before after
   pub value : HasValue told (value_at after.view ends.answered.stand.place key)
+  pub asked : among (value_at after.view ends.answered.stand.place key) change
   -- a call that never changes an object makes no exchange and no scan
-  pub never : NeverChanges change → (exchanges ends.answered.steps ≡ 0) × (scan_loads ends.answered.steps ≡ 0)
+  pub never : NoneChanges among → (exchanges ends.answered.steps ≡ 0) × (scan_loads ends.answered.steps ≡ 0)
   -- an insert that isn't Full and tries no exchange makes no scan, and leaves all nodes alone
-  pub quiet : IsInsert (call_for key change) → is_full (told_reply change told) ≡ false → exchanges ends.answered.steps ≡ 0 → IsQuiet ends.answered.steps before after
+  pub quiet : AreInserts key among → is_full (told_reply change told) ≡ false → exchanges ends.answered.steps ≡ 0 → IsQuiet ends.answered.steps before after
+
+-- the change by which a key that has this value gets another
+abbrev pub put_change : Option (List ℕ) → List ℕ → Change
+put_change None val = Insert val
+put_change (Some old) val = Replace old val
+
+-- where it has this value, the change is the one by which it gets a value that f gives for that
+pub record Puts (gives : Option (List ℕ) → List ℕ → Type 0) (there : Option (List ℕ)) (change : Change) : Type 0 where
+  pub val : List ℕ
+  pub in_range : AreWords VALUE_WIDTH val
+  pub given : gives there val
+  pub change_is : change ≡ put_change there val
+
+-- what an update answers at such an end
+abbrev pub update_answer : Told → UpdateAnswer
+update_answer (Plain there) = UpdateDone there
+update_answer (Full needed free) = UpdateFull needed free
 
 -- what an insert answers at such an end
 abbrev pub insert_answer : Told → InsertAnswer

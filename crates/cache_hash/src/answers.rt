@@ -34,3 +34,12 @@ pub enum Remove {
     /// The key is there and stays so, since fewer nodes are free than are needed.
     Full { need: u32, free: u32 },
 }
+
+/// What an update answers.
+#[derive(Clone, Copy, Debug, Drop, PartialEq, Eq)]
+pub enum Update {
+    /// The key had this value, or None, and has the one now that is given for it.
+    Done { there: Option<ValWords> },
+    /// The value given for what is there isn't put, since fewer nodes are free than are needed.
+    Full { need: u32, free: u32 },
+}

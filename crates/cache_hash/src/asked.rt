@@ -1,7 +1,9 @@
 //! What is asked of a key's pair, what a turn decides, and what the call is told in the end.
 ghost use Rattle.std.specs.Prelude.{◌≡◌, ◌≢◌, ◌+◌, ◌<◌, ◌^◌, List, Some, None, ℕ, length};
-ghost use Rattle.cache_hash.specs.Asking.{Decides, call_for, plain_reply, told_reply};
+ghost use Rattle.cache_hash.specs.Asking.{Decides, call_for, plain_reply, put_change, told_reply};
 ghost use Rattle.seat_history.specs.Key.{key_number};
+ghost use Rattle.seat_history.specs.declared.words.TheConstants.{VALUE_WIDTH};
+ghost use Rattle.step_rules.specs.History.{AreWords};
 ghost use Rattle.step_rules.specs.Records.{place_in};
 
 use chain_links::Edit;
@@ -51,6 +53,17 @@ pub(crate) enum Told {
     Plain { there: Option<ValWords> },
     /// Without the change that was to be made, since fewer nodes are free than it needs.
     Full { need: u32, free: u32 },
+}
+
+/// The change by which a key that has this value gets another: an insert where it has none.
+pub(crate) fn change_to(there: Option<ValWords>, val: ValWords) -> Change
+    ensures change { result ≡ put_change there val }
+    ensures words { AreWords VALUE_WIDTH val }
+{
+    match there {
+        None => Change::Insert { val },
+        Some(old) => Change::Replace { old, new: val },
+    }
 }
 
 /// The call that is asked for.

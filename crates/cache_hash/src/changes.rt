@@ -1,11 +1,11 @@
 //! Changes of a key's pair: the turns of inserts, replaces and removes.
 ghost use Rattle.std.specs.Prelude.{◌<◌, ◌≡◌, ◌≤◌};
 ghost use Rattle.big_atomic.specs.Ready.{IsReady};
-ghost use Rattle.cache_hash.specs.Asking.{HasEnded, call_for};
-ghost use Rattle.cache_hash.specs.Changing.{HasDecided, HasTurned, IsAtTurn, IsDue, KnowsEnd, MakesRoom, MayMake};
+ghost use Rattle.cache_hash.specs.Asking.{HasEnded, Only, call_for};
+ghost use Rattle.cache_hash.specs.Changing.{Begun, CameBy, HasCome, HasDecided, HasTurned, IsAtTurn, IsDue, KnowsEnd, MakesRoom, MayAsk, MayMake, TurnsBy};
 ghost use Rattle.step_rules.specs.History.{IsWide};
 ghost use Rattle.step_rules.specs.Records.{removes_of};
-ghost use Rattle.step_rules.specs.SeatData.{IsOf, IsSeat, SeatData};
+ghost use Rattle.step_rules.specs.SeatData.{IsOf, IsSeat};
 
 use crate::asked::{
     Asked, Change, Decision, Due, Told, call_of, decide_absent, decide_there, reply_told,
@@ -27,7 +27,7 @@ pub(crate) fn change(shared: &Shared, seat: &mut Seat, key: KeyWords, change: Ch
     requires removes { removes_of (call_for key change) ≤ seat.old.view.removes }
     requires wide { IsWide (call_for key change) }
     ensures ready { IsReady shared.now seat.new }
-    ensures ended { HasEnded key change result seat.old seat.new }
+    ensures ended { HasEnded key (Only change) change result seat.old seat.new }
 {
     let cell = bucket_cell(shared, key);
     let asked = Asked { key, change, cell };
@@ -44,9 +44,9 @@ pub(crate) fn change(shared: &Shared, seat: &mut Seat, key: KeyWords, change: Ch
 
 // One turn, with the bucket's version found and its node claimed: looks for the key, and goes on as its value says.
 fn try_change(shared: &Shared, seat: &mut Seat, asked: Asked, start: Start, scanned: bool) -> Turn
-    requires past { (before : SeatData) × IsAtTurn shared.now asked.key asked.change asked.cell start.version start.word scanned before seat.old }
-    ensures turned { (before : SeatData) → IsAtTurn shared.now asked.key asked.change asked.cell start.version start.word scanned before seat.old
-        → HasTurned shared.now asked.key asked.change asked.cell result before seat.old seat.new }
+    requires past { (b : Begun shared.now asked.key) × CameBy (Only asked.change) b × MayAsk asked.key asked.change b.before × IsAtTurn b asked.cell start scanned seat.old }
+    ensures turned { (b : Begun shared.now asked.key) → CameBy (Only asked.change) b → MayAsk asked.key asked.change b.before → IsAtTurn b asked.cell start scanned seat.old
+        → TurnsBy (Only asked.change) b asked.cell result seat.old seat.new }
 {
     match walk(shared, seat, asked.cell, asked.key) {
         Walk::Found { at, val } => {
@@ -62,7 +62,7 @@ fn try_change(shared: &Shared, seat: &mut Seat, asked: Asked, start: Start, scan
 }
 
 // Ends the call where the object is to stay as it is, and changes it else.
-fn go_on(
+pub(crate) fn go_on(
     shared: &Shared,
     seat: &mut Seat,
     asked: Asked,
@@ -70,9 +70,9 @@ fn go_on(
     decision: Decision,
     scanned: bool,
 ) -> Turn
-    requires past { (before : SeatData) × HasDecided shared.now asked.key asked.change asked.cell start.version start.word decision scanned before seat.old }
-    ensures turned { (before : SeatData) → HasDecided shared.now asked.key asked.change asked.cell start.version start.word decision scanned before seat.old
-        → HasTurned shared.now asked.key asked.change asked.cell result before seat.old seat.new }
+    requires past { (b : Begun shared.now asked.key) × HasDecided b asked.cell start asked.change decision scanned seat.old }
+    ensures turned { (b : Begun shared.now asked.key) → HasDecided b asked.cell start asked.change decision scanned seat.old
+        → HasTurned b asked.cell result seat.old seat.new }
 {
     match decision {
         Decision::Stays { there } => {
@@ -93,9 +93,9 @@ fn make_change(
     due: Due,
     scanned: bool,
 ) -> Turn
-    requires past { (before : SeatData) × IsDue shared.now asked.key asked.change asked.cell start.version start.word due scanned before seat.old }
-    ensures turned { (before : SeatData) → IsDue shared.now asked.key asked.change asked.cell start.version start.word due scanned before seat.old
-        → HasTurned shared.now asked.key asked.change asked.cell result before seat.old seat.new }
+    requires past { (b : Begun shared.now asked.key) × IsDue b asked.cell start asked.change due scanned seat.old }
+    ensures turned { (b : Begun shared.now asked.key) → IsDue b asked.cell start asked.change due scanned seat.old
+        → HasTurned b asked.cell result seat.old seat.new }
 {
     let made = make_room(shared, seat, due.need, scanned);
     let free = seat.free();
@@ -133,9 +133,9 @@ fn install_change(
     due: Due,
     scanned: bool,
 ) -> Turn
-    requires past { (before : SeatData) × MayMake shared.now asked.key asked.change asked.cell start.version start.word due scanned before seat.old }
-    ensures turned { (before : SeatData) → MayMake shared.now asked.key asked.change asked.cell start.version start.word due scanned before seat.old
-        → HasTurned shared.now asked.key asked.change asked.cell result before seat.old seat.new }
+    requires past { (b : Begun shared.now asked.key) × MayMake b asked.cell start asked.change due scanned seat.old }
+    ensures turned { (b : Begun shared.now asked.key) → MayMake b asked.cell start asked.change due scanned seat.old
+        → HasTurned b asked.cell result seat.old seat.new }
 {
     let Front::Ready { node } = copy_front(shared, seat, asked.cell, due.edit) else {
         return Turn::Moved { scanned };
@@ -155,9 +155,9 @@ fn install_change(
 // Clears Walk and Back, and adds the stand of an end without a change, at the end of what the seat has
 // seen.
 fn tell(shared: &Shared, seat: &mut Seat, asked: Asked, told: Told)
-    requires past { (before : SeatData) × KnowsEnd shared.now asked.key asked.change asked.cell told before seat.old }
-    ensures ends { (before : SeatData) → KnowsEnd shared.now asked.key asked.change asked.cell told before seat.old
-        → IsReady shared.now seat.new × HasEnded asked.key asked.change told before seat.new }
+    requires past { (b : Begun shared.now asked.key) × KnowsEnd b asked.cell asked.change told seat.old }
+    ensures ends { (b : Begun shared.now asked.key) → KnowsEnd b asked.cell asked.change told seat.old
+        → IsReady shared.now seat.new × HasEnded asked.key (HasCome b.came) asked.change told b.before seat.new }
 {
     clear_walk(shared, seat);
     let reply = reply_told(asked.change, told);

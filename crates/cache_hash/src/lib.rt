@@ -14,16 +14,18 @@ mod replaces;
 #[cfg(test)]
 mod tests;
 mod turns;
+mod updates;
 
 pub use ahead::load_ahead;
-pub use answers::{Insert, Remove, Replace};
+pub use answers::{Insert, Remove, Replace, Update};
 pub use finds::find;
 pub use inserts::insert;
 pub use removes::remove;
 pub use replaces::replace;
+pub use updates::update;
 // All that a user needs beside the calls.
 pub use big_atomic::{
-    Building, Closed, Counts, NoMemory, Plan, Seat, Shared, TooLarge, build, join_all, split_all,
+    Building, Closed, Counts, NoMemory, Plan, Seat, Shared, TooLarge, build, join_all, reclaim, split_all,
 };
 pub use seat_history::{KeyWords, VALUE_WIDTH, ValWords};
 pub use step_rules::bucket_index;

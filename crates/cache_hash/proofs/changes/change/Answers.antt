@@ -1,6 +1,8 @@
-use Rattle.std.proofs.Common.{subst}
+use Rattle.std.proofs.Common.{◌∙◌, refl, subst}
+use Rattle.cache_hash.proofs.Ended.{ended_as, ended_only}
+use Rattle.cache_hash.proofs.Turning.{may_ask}
 use Rattle.cache_hash.proofs.Progress.{going_of}
-use Rattle.cache_hash.proofs.Turning.{begins_change, first_turn, next_turn, turn_smaller}
+use Rattle.cache_hash.proofs.Turning.{begins, first_turn, next_turn, turn_smaller}
 use Rattle.step_rules.specs.Layout.{IsPlan}
 use Rattle.cache_hash.proofs.changes.change.Goals as goal
 
@@ -8,21 +10,26 @@ pub bucket_cell-cell-requires-clause-plan : goal.bucket_cell-cell-requires-claus
 bucket_cell-cell-requires-clause-plan c = subst IsPlan c.requires.ready.ours.plan c.requires.ready.law.sound.plan
 
 pub turns-init : goal.turns-init
-turns-init c = first_turn
-    (begins_change c.args.key c.args.change c.bucket_cell-cell.result c.requires.ready c.requires.some c.requires.left c.requires.removes c.requires.wide c.bucket_cell-cell.ensures.cell)
-    c.claim_versioned-start.ensures.started
+turns-init c =
+    let b = begins c.args.key c.requires.ready c.requires.some c.requires.left in
+    (b, refl, λ there change come. absurd come, first_turn b c.bucket_cell-cell.ensures.cell c.claim_versioned-start.ensures.started)
 
-pub returns-in-Ends-clause-ready : goal.returns-in-Ends-clause-ready
-returns-in-Ends-clause-ready c = (c.in-Ends.ensures.turned c.args.seat.now c.turns.invariant).0
+pub try_change-requires : goal.try_change-requires
+try_change-requires c = let i = c.turns.invariant in record { past = (i.0, i.2, (may_ask c.requires.removes c.requires.wide i.1), i.3) }
 
-pub returns-in-Ends-clause-ended : goal.returns-in-Ends-clause-ended
-returns-in-Ends-clause-ended c = (c.in-Ends.ensures.turned c.args.seat.now c.turns.invariant).1
+pub returns-in-Ends : goal.returns-in-Ends
+returns-in-Ends c =
+    let i = c.turns.invariant in
+    let t = c.in-Ends.ensures.turned i.0 i.2 (may_ask c.requires.removes c.requires.wide i.1) i.3 in
+    let e = t.turned in record { ready = e.0; ended = ended_only (t.same ∙ i.1) (e.1.0, ended_as t.by e.1.1) }
 
 pub claim_versioned-start-requires-in-turns-clause-ours : goal.claim_versioned-start-requires-in-turns-clause-ours
-claim_versioned-start-requires-in-turns-clause-ours c = going_of (c.in-Moved.ensures.turned c.args.seat.now c.turns.invariant).so_far.going
+claim_versioned-start-requires-in-turns-clause-ours c = let i = c.turns.invariant in let t = (c.in-Moved.ensures.turned i.0 i.2 (may_ask c.requires.removes c.requires.wide i.1) i.3) in going_of t.turned.so_far.going
 
 pub turns-smaller : goal.turns-smaller
-turns-smaller c = turn_smaller c.turns.invariant (c.in-Moved.ensures.turned c.args.seat.now c.turns.invariant) c.claim_versioned-start-in-turns.ensures.started
+turns-smaller c = let i = c.turns.invariant in let t = (c.in-Moved.ensures.turned i.0 i.2 (may_ask c.requires.removes c.requires.wide i.1) i.3) in turn_smaller i.3 t.same t.turned c.claim_versioned-start-in-turns.ensures.started
 
 pub turns-preserved : goal.turns-preserved
-turns-preserved c = next_turn (c.in-Moved.ensures.turned c.args.seat.now c.turns.invariant) c.claim_versioned-start-in-turns.ensures.started
+turns-preserved c =
+    let i = c.turns.invariant in
+    let t = (c.in-Moved.ensures.turned i.0 i.2 (may_ask c.requires.removes c.requires.wide i.1) i.3) in (t.now, t.same ∙ i.1, t.by, next_turn t.turned c.claim_versioned-start-in-turns.ensures.started)

@@ -16,7 +16,7 @@ pub copy_front-requires-clause-free : goal.copy_front-requires-clause-free
 copy_front-requires-clause-free c = make_free c.requires.past.1
 
 pub returns-in_default : goal.returns-in_default
-returns-in_default c = record { turned = λ before m. gave_up_turn m c.in_default.ensures.copied }
+returns-in_default c = record { turned = λ b m. gave_up_turn m c.in_default.ensures.copied }
 
 pub install-installed-requires-clause-may : goal.install-installed-requires-clause-may
 install-installed-requires-clause-may c = rw c.call_of-call.ensures (has_front c.requires.past.1 c.in-Ready.ensures.copied c.in-Ready.ensures.law).prepared.may
@@ -40,7 +40,7 @@ install-installed-requires-clause-unlocked c = copied_unlocked (has_front c.requ
 
 pub returns-in_default-installed : goal.returns-in_default-installed
 returns-in_default-installed c = record {
-  turned = λ before m. lost_turn (has_front m c.in-Ready.ensures.copied c.in-Ready.ensures.law) c.in_default-installed.ensures.installs c.in_default-installed.ensures.law;
+  turned = λ b m. lost_turn (has_front m c.in-Ready.ensures.copied c.in-Ready.ensures.law) c.in_default-installed.ensures.installs c.in_default-installed.ensures.law;
 }
 
 pub clear_walk-requires : goal.clear_walk-requires
@@ -54,7 +54,8 @@ release-requires-clause-ours c = walk_ours c.install-installed.new.seat c.clear_
 
 pub returns : goal.returns
 returns c = record {
-  turned = λ before m.
+  turned = λ b m.
       let h = has_front m c.in-Ready.ensures.copied c.in-Ready.ensures.law in
-      made (own_front h) (own_installed m.going.begins c.call_of-call.ensures c.in-Installed.ensures.installs) c.clear_walk.ensures.cleared c.release.ensures.released c.release.ensures.law;
+      let ends = made (own_front h) (own_installed h c.call_of-call.ensures c.in-Installed.ensures.installs) c.clear_walk.ensures.cleared c.release.ensures.released c.release.ensures.law in
+      (ends.0, (c.args.asked.change, ends.1));
 }

@@ -9,8 +9,10 @@ tell-requires c = record {
 
 pub returns-then-free-need : goal.returns-then-free-need
 returns-then-free-need c = record {
-  turned = λ before p. c.tell.ensures.ends before
-      (too_few (room_made p c.make_room-made.ensures.room c.make_room-made.ensures.law) c.free-free.result c.free-free.ensures c.if-free-need.true);
+  turned = λ b p.
+      let ends = c.tell.ensures.ends b
+      (too_few (room_made p c.make_room-made.ensures.room c.make_room-made.ensures.law) c.free-free.result c.free-free.ensures c.if-free-need.true) in
+      (ends.0, (c.args.asked.change, ends.1));
 }
 
 pub install_change-requires : goal.install_change-requires
@@ -20,7 +22,7 @@ install_change-requires c = record {
 
 pub returns : goal.returns
 returns c = record {
-  turned = λ before p. ends_from c.args.shared.now c.args.asked.key c.args.asked.change c.args.asked.cell c.install_change.result before c.args.seat.now c.make_room-made.new.seat
+  turned = λ b p. ends_from b c.args.asked.cell c.install_change.result c.args.seat.now c.make_room-made.new.seat
       c.install_change.new.seat (room_seen c.make_room-made.ensures.room)
-      (c.install_change.ensures.turned before (enough_there (room_made p c.make_room-made.ensures.room c.make_room-made.ensures.law) (omega (arith, c.if-free-need.false, c.free-free.ensures))));
+      (c.install_change.ensures.turned b (enough_there (room_made p c.make_room-made.ensures.room c.make_room-made.ensures.law) (omega (arith, c.if-free-need.false, c.free-free.ensures))));
 }

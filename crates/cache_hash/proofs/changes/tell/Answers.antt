@@ -17,7 +17,7 @@ answer_now-requires c =
 
 pub returns : goal.returns
 returns c = record {
-  ends = λ before k.
+  ends = λ b k.
       let r = knows_cleared k c.clear_walk.ensures.cleared c.clear_walk.ensures.law in
       let u : SeatData = c.clear_walk.new.seat in
       has_told r (c.answer_now.ensures.seat
