@@ -9,3 +9,6 @@ mod Progress
 mod Told
 mod Turning
 mod Walking
+pub mod KeySums
+pub mod LaterPlaces
+pub mod Room
