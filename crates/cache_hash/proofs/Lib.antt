@@ -12,3 +12,4 @@ mod Walking
 pub mod KeySums
 pub mod LaterPlaces
 pub mod Room
+pub mod FewKeys

@@ -7,6 +7,7 @@ ghost use Rattle.big_atomic.specs.Registers.{end_of};
 ghost use Rattle.big_atomic.specs.Seats.{IsUnused};
 ghost use Rattle.big_atomic.specs.Sums.{AddUpTo, Adding, Shows};
 ghost use Rattle.cache_hash.specs.Calls.{IsFound, IsInserted, IsKeyChange, IsReplaced};
+ghost use Rattle.cache_hash.specs.Keys.{HasFewKeys, NotFull, OnlyPuts};
 ghost use Rattle.cache_hash.specs.Places.{CameLateToInsert, CameLateToReplace, KnowsKey};
 ghost use Rattle.cache_hash.specs.Room.{HasNodesLeft, HasRoom, IsNotFull};
 ghost use Rattle.cache_hash.specs.Sums.{AddsToKey, CountsKeys, IsCount, IsSum, times_counted};
@@ -23,6 +24,13 @@ ghost use Rattle.step_rules.specs.SeatData.{IsOf, IsSeat, ObjectData, SeatData};
 pub fn no_call_is_full()
     ensures { (shared : ObjectData) (call : Call) (reply : Reply) (changed : Bool) (before after : SeatData) → HasRoom shared.plan
         → IsReady shared before → HasNodesLeft shared before → IsKeyChange call reply changed before after → IsNotFull reply }
+{}
+
+/// Where pairs are only put in, no call is Full that is of an object whose share has two nodes for each
+/// key that is there at closing, one for each claim word, and one more.
+pub fn few_keys_none_full()
+    ensures { (most : ℕ) (seat : SeatData) (closed : ClosedData) → IsSeat seat → IsClosed seat closed
+        → All (λ s. OnlyPuts s.call) closed.stands → HasFewKeys most closed → All NotFull closed.stands }
 {}
 
 /// A seat that made no call has its whole share.

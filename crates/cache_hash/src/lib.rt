@@ -19,8 +19,8 @@ pub use answers::{Insert, Remove, Replace};
 pub use finds::find;
 pub use inserts::insert;
 pub use laws::{
-    found_is_known, key_counts, key_sums, late_insert_stands_later, late_replace_stands_later,
-    no_call_is_full, nodes_stay_left, unused_has_nodes,
+    few_keys_none_full, found_is_known, key_counts, key_sums, late_insert_stands_later,
+    late_replace_stands_later, no_call_is_full, nodes_stay_left, unused_has_nodes,
 };
 pub use removes::remove;
 pub use replaces::replace;
