@@ -24,12 +24,14 @@ pub mod Preparing
 pub mod PuttingBack
 pub mod Reading
 pub mod Refusing
+pub mod RegisterSums
 pub mod Renewing
 pub mod Scanning
 pub mod SeatNumbers
 pub mod Sharing
 pub mod Shortage
 mod Stopping
+pub mod Sums
 pub mod Unlike
 pub mod Versioned
 pub mod Winning

@@ -10,3 +10,4 @@ pub mod Registers
 pub mod Seats
 pub mod Stands
 pub mod Turns
+pub mod Sums

@@ -3,9 +3,11 @@
 ghost use Rattle.std.specs.Prelude.{◌≡◌, All, Bool, List, ℕ, count_by, false, true};
 ghost use Rattle.big_atomic.specs.Calls.{IsLoaded, IsSwapped};
 ghost use Rattle.big_atomic.specs.Ready.{IsReady};
-ghost use Rattle.big_atomic.specs.Registers.{CountsUp, FitsBlank, GivesFitting, HasCounted, HasFitting};
+ghost use Rattle.big_atomic.specs.Registers.{CountsUp, FitsBlank, GivesFitting, HasCounted, HasFitting, end_of};
 ghost use Rattle.big_atomic.specs.Stands.{HasSeenMore};
+ghost use Rattle.big_atomic.specs.Sums.{AddUpTo, Adding, AddsToRegister, Shows};
 ghost use Rattle.big_atomic.specs.declared.answers.Swap.TheVariants.{No as SwapNo};
+ghost use Rattle.seat_history.specs.Contents.{zeros};
 ghost use Rattle.step_rules.specs.Closing.{ClosedData, IsClosed};
 ghost use Rattle.step_rules.specs.Line.{line_of};
 ghost use Rattle.step_rules.specs.SeatData.{IsOf, IsSeat, ObjectData, SeatData, holds_record, is_quiet};
@@ -49,4 +51,13 @@ pub fn records_fit()
 pub fn register_counts()
     ensures { (reg : ℕ) (number : List ℕ → ℕ) (seat : SeatData) (closed : ClosedData) → IsSeat seat → IsClosed seat closed
         → All (λ s. CountsUp reg number s.call) closed.stands → HasCounted reg number closed }
+{}
+
+/// Where a register is only changed by swaps that add to it, its number shows at the end what a new one's
+/// shows, and the sum of all that was added, in whatever order: by any way to add that is commutative.
+pub fn register_sums()
+    ensures { (A : Adding ℕ) (number : List ℕ → ℕ) (shown : ℕ → ℕ) (reg : ℕ) (seat : SeatData) (closed : ClosedData) (start sum : ℕ)
+        → IsSeat seat → IsClosed seat closed → number zeros ≡ shown start
+        → AddUpTo A (λ x s. AddsToRegister A (Shows number shown) reg x s.call s.reply) closed.stands sum
+        → number ((end_of closed).registers reg) ≡ shown (A.add start sum) }
 {}

@@ -25,7 +25,7 @@ pub use holds::{hold, look, release_hold};
 pub use installs::install;
 pub use laws::{
     fresh_is_ready, line_counts, missed_has_seen_more, quiet_is_ready, ready_is_quiet, records_fit,
-    register_counts,
+    register_counts, register_sums,
 };
 pub use loads::load;
 pub use reclaims::reclaim;

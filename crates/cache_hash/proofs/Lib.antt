@@ -10,3 +10,7 @@ mod Told
 mod Turning
 mod Updating
 mod Walking
+pub mod KeySums
+pub mod LaterPlaces
+pub mod Room
+pub mod FewKeys

@@ -9,6 +9,7 @@ mod changes;
 mod finds;
 mod firsts;
 mod inserts;
+mod laws;
 mod removes;
 mod replaces;
 #[cfg(test)]
@@ -20,12 +21,17 @@ pub use ahead::load_ahead;
 pub use answers::{Insert, Remove, Replace, Update};
 pub use finds::find;
 pub use inserts::insert;
+pub use laws::{
+    few_keys_none_full, found_is_known, key_counts, key_sums, late_insert_stands_later,
+    late_replace_stands_later, no_call_is_full, nodes_stay_left, unused_has_nodes,
+};
 pub use removes::remove;
 pub use replaces::replace;
 pub use updates::update;
 // All that a user needs beside the calls.
 pub use big_atomic::{
-    Building, Closed, Counts, NoMemory, Plan, Seat, Shared, TooLarge, build, join_all, reclaim, split_all,
+    Building, Closed, Counts, NoMemory, Plan, Seat, Shared, TooLarge, build, join_all, reclaim,
+    split_all,
 };
 pub use seat_history::{KeyWords, VALUE_WIDTH, ValWords};
 pub use step_rules::bucket_index;
