@@ -1,5 +1,5 @@
 -- What a call of a tally leaves of the flows of an object.
-use Rattle.std.proofs.Common.{◌≡◌, ◌∙◌, ℕ, ◌^◌, ◌<◌, Bool, true, false, cond, List, [], ◌∷◌, ◌++◌, Option, Some, None, refl, sym, ap, subst, arith}
+use Rattle.std.proofs.Common.{◌≡◌, ◌∙◌, ℕ, Bool, true, false, cond, List, [], ◌∷◌, ◌++◌, Option, Some, None, refl, sym, ap, subst}
 use Rattle.std.specs.Option.{option_map, option_map_or}
 use Rattle.std.specs.Prelude.{MatchOption}
 use Rattle.std.proofs.lemmas.Bool.{false≢true}
@@ -30,12 +30,12 @@ abbrev TotalsTo : List Value → Option Value → Type 0
 TotalsTo values at = MatchOption at (values ≡ []) (IsTotal values)
 
 -- the words of this value under the pair's key, where they are the total with the pair's
-total_put : (done : Flows) (values : ℕ → Option (List ℕ)) (pair : Key × Value) (total : Value) → IsKey (key_words pair.0) → total.last < 2 ^ 32
+total_put : (done : Flows) (values : ℕ → Option (List ℕ)) (pair : Key × Value) (total : Value) → IsKey (key_words pair.0)
     → IsTotal (values_at pair.0 done ++ pair.1 ∷ []) total → IsFold done (flow_in values)
     → IsFold (done ++ pair ∷ []) (flow_in (set_at values (key_number (key_words pair.0)) (Some (words_of total))))
-total_put done values pair total key small is fold =
+total_put done values pair total key is fold =
     fold_push done (flow_in values) (flow_in (set_at values (key_number (key_words pair.0)) (Some (words_of total)))) pair.0 pair.1 total is
-    (flow_set values pair.0 (words_of total) key ∙ ap (λ (v : Value). Some v) (value_of_words-words_of total small))
+    (flow_set values pair.0 (words_of total) key ∙ ap (λ (v : Value). Some v) (value_of_words-words_of total))
     (λ other ne. flow_else values pair.0 (words_of total) key other ne) fold
 
 inserted : (done : Flows) (values : ℕ → Option (List ℕ)) (pair : Key × Value) → IsKey (key_words pair.0) → IsValueInRange pair.1
@@ -47,22 +47,19 @@ inserted done values pair key range none fold =
     let empty : values_at pair.0 done ≡ [] = subst (TotalsTo (values_at pair.0 done)) nothing (fold pair.0) in
     let total : IsTotal (values_at pair.0 done ++ pair.1 ∷ []) pair.1 = subst (λ (vs : List Value). IsTotal (vs ++ pair.1 ∷ []) pair.1) (sym empty) (total_one pair.1 range.packets range.octets) in
     subst (λ (o : Option (List ℕ)). IsFold (done ++ pair ∷ []) (flow_in (option_map_or (λ _. values) o (set_at values n (Some (words_of pair.1)))))) (sym none)
-    (total_put done values pair pair.1 key range.last total fold)
+    (total_put done values pair pair.1 key total fold)
 
-replaced : (done : Flows) (values : ℕ → Option (List ℕ)) (pair : Key × Value) (value : Value) → IsKey (key_words pair.0) → IsValueInRange pair.1 → IsValueInRange value
+replaced : (done : Flows) (values : ℕ → Option (List ℕ)) (pair : Key × Value) (value : Value) → IsKey (key_words pair.0)
     → values (key_number (key_words pair.0)) ≡ Some (words_of value) → IsFold done (flow_in values)
     → IsFold (done ++ pair ∷ []) (flow_in (values_after values (Replace (key_words pair.0) (words_of value) (words_of (merge_of value pair.1)))))
-replaced done values pair value key range old_range there fold =
+replaced done values pair value key there fold =
     let n = key_number (key_words pair.0) in
     let next = set_at values n (Some (words_of (merge_of value pair.1))) in
-    let old : flow_in values pair.0 ≡ Some value = flow_there values pair.0 key ∙ (ap (option_map value_of_words) there ∙ ap (λ (v : Value). Some v) (value_of_words-words_of value old_range.last)) in
+    let old : flow_in values pair.0 ≡ Some value = flow_there values pair.0 key ∙ (ap (option_map value_of_words) there ∙ ap (λ (v : Value). Some v) (value_of_words-words_of value)) in
     let total : IsTotal (values_at pair.0 done) value = subst (TotalsTo (values_at pair.0 done)) old (fold pair.0) in
     let same : is_value (values n) (words_of value) ≡ true = ap (λ o. is_value o (words_of value)) there ∙ same_from_words (words_of value) (words_of value) refl in
     subst (λ b. IsFold (done ++ pair ∷ []) (flow_in (cond b next values))) (sym same)
-    (total_put done values pair (merge_of value pair.1) key (greater value pair.1 old_range range) (total_push (values_at pair.0 done) value pair.1 total) fold)
-  where
-    greater : (a b : Value) → IsValueInRange a → IsValueInRange b → (merge_of a b).last < 2 ^ 32
-    greater a b x y = let l = x.last in let m = y.last in omega arith
+    (total_put done values pair (merge_of value pair.1) key (total_push (values_at pair.0 done) value pair.1 total) fold)
 
 -- a call that adds a pair
 pub adds_fold : (done : Flows) (contents : Contents) (held : Option (List ℕ)) (call : Call) (reply : Reply) (pair : Key × Value) → IsKey (key_words pair.0) → IsValueInRange pair.1
@@ -78,7 +75,7 @@ adds_fold done contents held (Replace k old new) Yes pair key range adds right f
     (λ (z : KeyWords × List ℕ). contents.values (key_number z.0) ≡ Some z.1) (λ i. (adds.0 i, adds.1.2 i)) (replace_yes (contents.values (key_number k)) old right) in
     subst (λ (z : KeyWords × List ℕ × List ℕ). IsFold (done ++ pair ∷ []) (flow_in (values_after contents.values (Replace z.0 z.1 z.2))))
     (λ i. (sym adds.0 i, sym adds.1.2 i, sym adds.1.3 i))
-    (replaced done contents.values pair value key range adds.1.1 there fold)
+    (replaced done contents.values pair value key there fold)
 adds_fold done contents held (Insert k val) _ pair key range adds right fold = absurd adds
 adds_fold done contents held (Replace k old new) _ pair key range adds right fold = absurd adds
 adds_fold done contents held _ _ pair key range adds right fold = absurd adds

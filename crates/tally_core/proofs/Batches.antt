@@ -82,7 +82,7 @@ few_drawn pairs batches once = omega (arith, few_once (batch_of pairs) (batches_
 items_in_row : (pairs : Flows) (k a : ℕ) → (0 < k → a + k ≤ length pairs) → items_at pairs (range_with_len a k) ≡ take k (drop a pairs)
 items_in_row pairs zero a within = refl
 items_in_row pairs (suc k) a within =
-    let d : Key × Value = (record { k0 = 0; k1 = 0 }, record { packets = 0; octets = 0; first = 0; last = 0 }) in
+    let d : Key × Value = (record { k0 = 0; k1 = 0 }, record { packets = 0; octets = 0; first = 0; last = 0; flags = 0 }) in
     let high : a + suc k ≤ length pairs = within (omega arith) in
     let next : suc a ≡ a + 1 = omega arith in
     let rest = items_in_row pairs k (a + 1) (λ some. omega arith) in

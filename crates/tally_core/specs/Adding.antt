@@ -36,8 +36,9 @@ key_words key = record { k0 = key.k0; k1 = key.k1 }
 pub record IsValueInRange (value : Value) : Type 0 where
   pub packets : value.packets < 2 ^ 64
   pub octets : value.octets < 2 ^ 64
-  pub first : value.first < 2 ^ 32
-  pub last : value.last < 2 ^ 32
+  pub first : value.first < 2 ^ 64
+  pub last : value.last < 2 ^ 64
+  pub flags : value.flags < 2 ^ 64
 
 -- the words of a key and the parts of its value have their widths
 abbrev pub IsInRange : Key × Value → Type 0

@@ -1,7 +1,7 @@
 use crate::{Draw, Ran, Tallied, TallyEnd, drive, tally};
 use call_script::{Counts, read_script};
 use flow_fold::{Key, Value, flows_of, fold};
-use seat_history::Reply;
+use seat_history::{Rec, Reply, VALUE_WIDTH, ValWords, WIDTH};
 use std::alloc::Global;
 use std::test::Fail;
 use std::thread::Threads;
@@ -18,6 +18,19 @@ fn ran<R: Threads + Sync, G: Gate>(
     Ok(drive(rt, alloc, &script, 16, 8, gate)?)
 }
 
+// A record and a value that begin with this word, with zeros behind.
+fn rec(first: u64) -> Rec {
+    let mut words = [0; WIDTH];
+    words[0] = first;
+    words
+}
+
+fn val(first: u64) -> ValWords {
+    let mut words = [0; VALUE_WIDTH];
+    words[0] = first;
+    words
+}
+
 // Each caller calls what the other doesn't.
 static TWO_CALLERS: &str =
     "callers 2\n0 hold 3\n1 insert 2 20\n0 store 3 1\n1 insert 2 30\n0 look\n1 replace 2 20 40\n0 swap 3 1 2\n1 remove 2\n1 find 2\n";
@@ -31,16 +44,16 @@ fn two_callers_meet(rt: HostRuntime) -> Result<(), Fail> {
         Reply::Done,
         Reply::Done,
         Reply::Done,
-        Reply::Present([20, 0, 0]),
-        Reply::Words([0, 0, 0, 0, 0]),
+        Reply::Present(val(20)),
+        Reply::Words(rec(0)),
         Reply::Yes,
         Reply::Yes,
-        Reply::Gone([40, 0, 0]),
+        Reply::Gone(val(40)),
         Reply::Absent,
     ];
     assert_eq!(rt; driven.replies.as_slice(), replies.as_slice());
     let register = driven.registers.as_slice().get(3).copied();
-    assert_eq!(rt; register, Some([2, 0, 0, 0, 0]));
+    assert_eq!(rt; register, Some(rec(2)));
     assert!(rt; driven.pairs.as_slice().is_empty());
     let counts = Counts {
         free: 16,
@@ -64,7 +77,7 @@ fn four_callers_count_up(rt: HostRuntime) -> Result<(), Fail> {
     let replies = ran.driven.replies.as_slice();
     let yes = replies.iter().filter(|reply| **reply == Reply::Yes).count();
     let register = ran.driven.registers.as_slice().first().copied();
-    assert_eq!(rt; register, Some([yes as u64, 0, 0, 0, 0]));
+    assert_eq!(rt; register, Some(rec(yes as u64)));
     assert_eq!(rt; replies.len(), 800);
     Ok(())
 }
@@ -114,8 +127,9 @@ fn some_pairs(alloc: Global, count: u32, keys: u32) -> Result<Vec<(Key, Value)>,
         let value = Value {
             packets: u64::from(i),
             octets: u64::MAX,
-            first: i % 101,
-            last: i % 103,
+            first: u64::from(i % 101),
+            last: u64::from(i % 103),
+            flags: 1 << (i % 8),
         };
         pairs.push((key, value))?;
     }

@@ -26,7 +26,7 @@ add_pair-requires c =
 
 pub loop-i-preserved : goal.loop-i-preserved
 loop-i-preserved c =
-    let none : Key × Value = (record { k0 = 0; k1 = 0 }, record { packets = 0; octets = 0; first = 0; last = 0 }) in
+    let none : Key × Value = (record { k0 = 0; k1 = 0 }, record { packets = 0; octets = 0; first = 0; last = 0; flags = 0 }) in
     let front = take c.loop-i.i c.args.pairs.now in record {
       adding = λ added was.
           subst (λ (l : Flows). IsAdding c.args.shared.now l false c.add_pair.new.seat)
