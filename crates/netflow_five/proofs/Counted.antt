@@ -24,7 +24,8 @@ tally_first mark tally count next flows lost resets = record {
 abbrev gap_after : Tally → SeqMark → ℕ
 gap_after tally mark = (mark.sequence + (2 ^ 32 - tally.next)) % 2 ^ 32
 
-gaps_more : (sent : List SeqMark) (tally : Tally) (mark : SeqMark) → Expects sent tally.next → gaps (sent ++ mark ∷ []) ≡ gaps sent ++ gap_after tally mark ∷ []
+gaps_more : (sent : List SeqMark) (tally : Tally) (mark : SeqMark) → Expects sent tally.next
+    → gaps (sent ++ mark ∷ []) ≡ gaps sent ++ gap_after tally mark ∷ []
 gaps_more sent tally mark (before, last, whole, next) =
     ap (λ (ms : List SeqMark). gaps (ms ++ mark ∷ [])) whole ∙ gaps_join before last mark []
     ∙ ap (λ (ms : List SeqMark). gaps ms ++ gap_between last mark ∷ []) (sym whole)

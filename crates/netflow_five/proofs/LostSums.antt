@@ -1,6 +1,6 @@
 -- What the gaps of datagrams come to where others follow them, and where none is lost.
-use Rattle.std.proofs.Common.{◌≡◌, ◌≢◌, ◌∙◌, ℕ, ◌+◌, ◌%◌, ◌^◌, ◌<◌, Bool, true, false, cond, not, List, [], ◌∷◌, ◌++◌, append-nil, ap, refl, sym, subst, arith}
-use Rattle.std.specs.Prelude.{if◌then◌else◌}
+use Rattle.std.proofs.Common.{◌≡◌, ◌≢◌, ◌∙◌, ℕ, ◌+◌, ◌%◌, ◌^◌, ◌<◌, List, [], ◌∷◌, ◌++◌, append-nil, ap, refl, sym, subst, arith}
+use Rattle.std.specs.Prelude.{Bool, true, false, cond, not, if◌then◌else◌}
 use Rattle.std.specs.List.{sum, sum_by}
 use Rattle.std.proofs.lemmas.List.Sums.{sum_by-append}
 use Rattle.netflow_five.specs.Engines.{Engine, sent_by}
@@ -70,7 +70,8 @@ count_if true = refl
 count_if false = refl
 
 -- datagrams that follow others of their engine add up with them, and the gap between them counts
-pub joined_line : (engine : Engine) (marks others : List SeqMark) (line other both : EngineLine) (gap : ℕ) → Tells (sent_by engine marks) line → Tells (sent_by engine others) other
+pub joined_line : (engine : Engine) (marks others : List SeqMark) (line other both : EngineLine) (gap : ℕ)
+    → Tells (sent_by engine marks) line → Tells (sent_by engine others) other
     → Tells (sent_by engine (marks ++ others)) both → Meet (sent_by engine marks) (sent_by engine others) gap → IsJoined line other gap both
 joined_line engine marks others line other both gap a b c m =
     let sent = sent_by engine marks in
@@ -103,13 +104,16 @@ some_meet (mark ∷ sent) (first ∷ after) some more =
 pub line_stays : (engine : Engine) (marks others : List SeqMark) (line : EngineLine) → sent_by engine others ≡ [] → Tells (sent_by engine marks) line
     → Tells (sent_by engine (marks ++ others)) line × Tells (sent_by engine (others ++ marks)) line
 line_stays engine marks others line none h =
-    let after : sent_by engine (marks ++ others) ≡ sent_by engine marks = sent_by-append engine marks others ∙ ap (λ (ms : List SeqMark). sent_by engine marks ++ ms) none
+    let after : sent_by engine (marks ++ others) ≡ sent_by engine marks =
+    sent_by-append engine marks others ∙ ap (λ (ms : List SeqMark). sent_by engine marks ++ ms) none
     ∙ append-nil (sent_by engine marks) in
-    let before : sent_by engine (others ++ marks) ≡ sent_by engine marks = sent_by-append engine others marks ∙ ap (λ (ms : List SeqMark). ms ++ sent_by engine marks) none in
+    let before : sent_by engine (others ++ marks) ≡ sent_by engine marks =
+    sent_by-append engine others marks ∙ ap (λ (ms : List SeqMark). ms ++ sent_by engine marks) none in
     (subst (λ (ms : List SeqMark). Tells ms line) (sym after) h, subst (λ (ms : List SeqMark). Tells ms line) (sym before) h)
 
 -- an engine whose numbers have one gap
-pub one_gap : (sent later : List SeqMark) (gap : ℕ) (line : EngineLine) → IsUnbroken sent → IsUnbroken later → Meet sent later gap → Tells (sent ++ later) line
+pub one_gap : (sent later : List SeqMark) (gap : ℕ) (line : EngineLine) → IsUnbroken sent → IsUnbroken later
+    → Meet sent later gap → Tells (sent ++ later) line
     → (line.lost ≡ (if is_loss gap then gap else 0)) × (line.resets ≡ (if is_loss gap then 0 else 1))
 one_gap sent later gap line a b m h =
     let first = none_missing sent a in

@@ -21,7 +21,8 @@ use Rattle.netflow_five.specs.declared.seq_mark.SeqMark.{SeqMark}
 use Rattle.netflow_five.proofs.Senders.{engine_cmp_total, exact_engines}
 
 -- lists of rising engines that have the same engines are one
-same_engines : (es fs : List Engine) → IsStrictlySortedBy engine_cmp es → IsStrictlySortedBy engine_cmp fs → ((e : Engine) → Contains es e ↔ Contains fs e) → es ≡ fs
+same_engines : (es fs : List Engine) → IsStrictlySortedBy engine_cmp es → IsStrictlySortedBy engine_cmp fs
+    → ((e : Engine) → Contains es e ↔ Contains fs e) → es ≡ fs
 same_engines es fs rising rising_too same =
     let s : BTreeSet Engine = record { keys = es } in
     let t : BTreeSet Engine = record { keys = fs } in
@@ -47,7 +48,8 @@ abbrev later_engines : List Engine → List Engine
 later_engines [] = []
 later_engines (e ∷ es) = es
 
-same_lines : (marks : List SeqMark) (xs ys : List EngineLine) → map line_engine xs ≡ map line_engine ys → All (IsEngineLine marks) xs → All (IsEngineLine marks) ys → xs ≡ ys
+same_lines : (marks : List SeqMark) (xs ys : List EngineLine) → map line_engine xs ≡ map line_engine ys
+    → All (IsEngineLine marks) xs → All (IsEngineLine marks) ys → xs ≡ ys
 same_lines marks [] [] e a b = refl
 same_lines marks [] (y ∷ ys) e a b = absurd (cc)
 same_lines marks (x ∷ xs) [] e a b = absurd (cc)
@@ -81,7 +83,8 @@ seen_at (mark ∷ marks) e =
     ∙ ap (λ b. eq_by_cmp engine_cmp e (engine_of mark) || b) (seen_at marks e)
 
 -- an engine is among keys exactly if a test of them finds it
-any_engine : (es fs : List Engine) (e : Engine) → list_any (eq_by_cmp engine_cmp e) es ≡ list_any (eq_by_cmp engine_cmp e) fs → Contains es e → Contains fs e
+any_engine : (es fs : List Engine) (e : Engine) → list_any (eq_by_cmp engine_cmp e) es ≡ list_any (eq_by_cmp engine_cmp e) fs
+    → Contains es e → Contains fs e
 any_engine es fs e same h =
     Contains-from_any (tells_apart exact_engines) e fs (sym same ∙ list_any-from_Contains (eq_by_cmp_equiv engine_cmp_total) e es h)
 

@@ -31,13 +31,15 @@ pub tallied_none : (at : Engine → Option Tally) → ((engine : Engine) → at 
 unfolding sent_by
 tallied_none at nothing engine = subst (Comes []) (sym (nothing engine)) refl
 
-one_mark : (b : Bool) (sent : List SeqMark) (mark : SeqMark) (old new : Option Tally) → (b ≡ true → Comes (sent ++ mark ∷ []) new) → (b ≡ false → new ≡ old)
+one_mark : (b : Bool) (sent : List SeqMark) (mark : SeqMark) (old new : Option Tally)
+    → (b ≡ true → Comes (sent ++ mark ∷ []) new) → (b ≡ false → new ≡ old)
     → Comes sent old → Comes (sent ++ cond b (mark ∷ []) []) new
 one_mark true sent mark old new here kept h = here refl
 one_mark false sent mark old new here kept h = subst (λ (ms : List SeqMark). Comes ms new) (sym (append-nil sent)) (subst (Comes sent) (sym (kept refl)) h)
 
 -- with one datagram more, its engine has the tally with it, and each other engine keeps its own
-pub tallied_more : (marks : List SeqMark) (m n : BTreeMap Engine Tally) (mark : SeqMark) (tally : Tally) → IsTally (sent_by (engine_of mark) marks ++ mark ∷ []) tally
+pub tallied_more : (marks : List SeqMark) (m n : BTreeMap Engine Tally) (mark : SeqMark) (tally : Tally)
+    → IsTally (sent_by (engine_of mark) marks ++ mark ∷ []) tally
     → Updates engine_cmp m n (engine_of mark) (Some tally) → HasTallied marks (get engine_cmp m) → HasTallied (marks ++ mark ∷ []) (get engine_cmp n)
 tallied_more marks m n mark tally is updates h engine =
     let own = λ (e : has_sent engine mark ≡ true).
@@ -78,7 +80,8 @@ has_come sent None none there = absurd (search rules)
 has_come sent (Some tally) is there = some_sent sent tally.next is.next
 
 -- the tallies of all engines give their lines
-pub losses_from : (marks : List SeqMark) (m : BTreeMap Engine Tally) → IsOrdered engine_cmp m → HasTallied marks (get engine_cmp m) → IsLosses marks (map entry_line m.entries)
+pub losses_from : (marks : List SeqMark) (m : BTreeMap Engine Tally) → IsOrdered engine_cmp m
+    → HasTallied marks (get engine_cmp m) → IsLosses marks (map entry_line m.entries)
 losses_from marks m ordered h = record {
   rising = subst (IsStrictlySortedBy engine_cmp) (sym (engines_of m.entries)) ordered;
   whose = λ engine.

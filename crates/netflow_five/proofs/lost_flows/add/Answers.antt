@@ -12,7 +12,8 @@ add_mark-requires c =
     let marks = c.requires.few.0 in
     let engine : Engine = engine_of c.args.mark in
     let few = sent_by-le-length engine marks in
-    record { few = (sent_by engine marks, tally_there (sent_by engine marks) _ c.in-Some.tally.now (c.requires.few.1 engine) c.in-Some.ensures.value, omega (arith, c.requires.few.2)) }
+    let tally = tally_there (sent_by engine marks) _ c.in-Some.tally.now (c.requires.few.1 engine) c.in-Some.ensures.value in
+    record { few = (sent_by engine marks, tally, omega (arith, c.requires.few.2)) }
 
 pub returns-in-Some : goal.returns-in-Some
 returns-in-Some c = λ marks h.
