@@ -23,8 +23,10 @@ exact_engines = exact_pairs nat_cmp nat_cmp exact_unsigned exact_unsigned
 
 -- an engine is at another exactly if they are one
 pub same_engine : (a b : Engine) → Decides (is_at (engine_cmp a) b) (a ≡ b)
-same_engine a b = (λ h. exact_engines a b ((Equal-is (engine_cmp a b)).0 h), 
-    λ e. subst (λ (k : Engine). is_at (engine_cmp a) k ≡ true) e ((eq_by_cmp_equiv engine_cmp_total).refl a))
+same_engine a b = (
+  λ h. exact_engines a b ((Equal-is (engine_cmp a b)).0 h),
+  λ e. subst (λ (k : Engine). is_at (engine_cmp a) k ≡ true) e ((eq_by_cmp_equiv engine_cmp_total).refl a),
+)
 
 -- an engine has sent a datagram exactly if it is the datagram's engine
 pub has_sent-engine : (engine : Engine) (mark : SeqMark) → Decides (has_sent engine mark) (engine ≡ engine_of mark)
