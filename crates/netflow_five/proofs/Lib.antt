@@ -1,9 +1,15 @@
+pub mod Counted
 pub mod Encoded
 pub mod Faults
 pub mod Files
 pub mod Front
+pub mod GapSums
 pub mod Generated
+pub mod LostSums
 pub mod OneFault
+pub mod OneList
 pub mod Parts
+pub mod Senders
 pub mod SomeFault
 pub mod Streams
+pub mod Tallying

@@ -1,11 +1,17 @@
 pub mod Datagram
 pub mod Encoding
+pub mod Engines
 pub mod Fault
 pub mod Field
 pub mod File
+pub mod Gaps
 pub mod Generating
 pub mod Header
+pub mod Joining
+pub mod Losses
+pub mod Mark
 pub mod Next
 pub mod Ranges
 pub mod Record
 pub mod Streaming
+pub mod Tallies

@@ -2,11 +2,13 @@ ghost use Rattle.std.specs.Prelude.{◌≡◌, ◌+◌, ◌<◌, ◌≤◌, leng
 ghost use Rattle.netflow_five.specs.Datagram.{IsDatagram, BeginsWithDatagram, count_of, records_of};
 ghost use Rattle.netflow_five.specs.Fault.{IsFault};
 ghost use Rattle.netflow_five.specs.Header.{header_of};
+ghost use Rattle.netflow_five.specs.Mark.{mark_of};
 
 use crate::field::u16_at;
 use crate::header::{Header, header_at};
 use crate::malformed::Malformed;
 use crate::record::{FlowRecord, record_at};
+use crate::seq_mark::SeqMark;
 
 /// The version that each datagram has.
 pub(crate) const VERSION: u16 = 5;
@@ -37,6 +39,19 @@ impl Datagram<'_> {
         ensures { result ≡ count_of self.now.bytes.now }
     {
         u32::from(u16_at(self.bytes, 2))
+    }
+
+    /// Its place among the flows of its engine.
+    pub fn mark(&self) -> SeqMark
+        ensures { result ≡ mark_of self.now.bytes.now }
+    {
+        let header = self.header();
+        SeqMark {
+            engine_type: header.engine_type,
+            engine_id: header.engine_id,
+            sequence: header.flow_sequence,
+            count: self.count(),
+        }
     }
 
     /// How many bytes it has.

@@ -2,6 +2,7 @@ ghost use Rattle.std.specs.Prelude.{◌≡◌, ◌+◌, length};
 ghost use Rattle.netflow_five.specs.File.{joined};
 
 mod generated;
+mod lost;
 
 use crate::{
     Collector, Datagram, FlowRecord, Header, Malformed, Refused, collect_bytes, decode, decode_all,
