@@ -11,7 +11,8 @@ use Rattle.flow_fold.specs.Fold.{HasBitsOf}
 
 -- joining goes by bits, and so in any grouping
 pub or_assoc : (a b c : ℕ) → bit_or (bit_or a b) c ≡ bit_or a (bit_or b c)
-or_assoc a b c = same_from_bits _ _ (λ i. let e = bit_at_or (bit_or a b) c i in let f = bit_at_or a b i in let g = bit_at_or a (bit_or b c) i in let h = bit_at_or b c i in omega arith)
+or_assoc a b c = same_from_bits _ _ (λ i.
+    omega (arith, bit_at_or (bit_or a b) c i, bit_at_or a b i, bit_at_or a (bit_or b c) i, bit_at_or b c i))
 
 -- some number of a list has the bit
 abbrev SomeHas : ℕ → List ℕ → Type 0
@@ -34,19 +35,26 @@ one_of_two (suc (suc a)) b e p q = absurd (omega arith)
 
 -- one number has its own bits
 pub bits_alone : (n : ℕ) → HasBitsOf n (n ∷ [])
-bits_alone n = record {
-  bits = λ i. (λ h. some_has i (n ∷ []) n (Contains-push [] n) h, λ a. ⊎_elim (λ (none : SomeHas i []). absurd (omega (arith, none.2))) (λ h. h) (some_pushed i [] n a));
-}
+bits_alone n = record { bits = λ i. (λ h. some_has i (n ∷ []) n (Contains-push [] n) h, own i) }
+  where
+    own : (i : ℕ) → SomeHas i (n ∷ []) → bit_at n i ≡ 1
+    own i a = ⊎_elim (λ (none : SomeHas i []). absurd (omega (arith, none.2))) (λ h. h) (some_pushed i [] n a)
 
 -- one number more is joined
 pub bits_push : (ns : List ℕ) (n m : ℕ) → HasBitsOf n ns → HasBitsOf (bit_or n m) (ns ++ m ∷ [])
-bits_push ns n m has = record {
-  bits = λ i.
-      let both = bit_at_or n m i in let n_bit = bit_at-lt n i in let m_bit = bit_at-lt m i in (
-        λ h. ⊎_elim (λ old. some_before i ns m ((has.bits i).0 old)) (λ new. some_has i (ns ++ m ∷ []) m (Contains-push ns m) new) (one_of_two (bit_at n i) (bit_at m i) (sym both ∙ h) n_bit m_bit),
-        λ a. ⊎_elim (λ old. let bit = (has.bits i).1 old in omega arith) (λ (new : bit_at m i ≡ 1). omega arith) (some_pushed i ns m a),
-      );
-}
+bits_push ns n m has = record { bits = λ i. (given i, taken i) }
+  where
+    given : (i : ℕ) → bit_at (bit_or n m) i ≡ 1 → SomeHas i (ns ++ m ∷ [])
+    given i h = ⊎_elim
+        (λ old. some_before i ns m ((has.bits i).0 old))
+        (λ new. some_has i (ns ++ m ∷ []) m (Contains-push ns m) new)
+        (one_of_two (bit_at n i) (bit_at m i) (sym (bit_at_or n m i) ∙ h) (bit_at-lt n i) (bit_at-lt m i))
+
+    taken : (i : ℕ) → SomeHas i (ns ++ m ∷ []) → bit_at (bit_or n m) i ≡ 1
+    taken i a = ⊎_elim
+        (λ old. omega (arith, (has.bits i).1 old, bit_at_or n m i, bit_at-lt m i))
+        (λ (new : bit_at m i ≡ 1). omega (arith, bit_at_or n m i, bit_at-lt n i))
+        (some_pushed i ns m a)
 
 some_permuted : (i : ℕ) (ns ms : List ℕ) → IsPermutation ns ms → SomeHas i ns → SomeHas i ms
 some_permuted i ns ms p a = some_has i ms a.1 (Contains-permutation _ _ _ p (a.0, a.2, a.3)) a.4
@@ -64,4 +72,5 @@ same_bit (suc a) b p q f g = let one : suc a ≡ 1 = omega arith in one ∙ sym 
 
 -- numbers have one join
 pub bits_unique : (ns : List ℕ) (n m : ℕ) → HasBitsOf n ns → HasBitsOf m ns → n ≡ m
-bits_unique ns n m a b = same_from_bits n m (λ i. same_bit (bit_at n i) (bit_at m i) (bit_at-lt n i) (bit_at-lt m i) (λ h. (b.bits i).1 ((a.bits i).0 h)) (λ h. (a.bits i).1 ((b.bits i).0 h)))
+bits_unique ns n m a b = same_from_bits n m (λ i.
+    same_bit (bit_at n i) (bit_at m i) (bit_at-lt n i) (bit_at-lt m i) (λ h. (b.bits i).1 ((a.bits i).0 h)) (λ h. (a.bits i).1 ((b.bits i).0 h)))

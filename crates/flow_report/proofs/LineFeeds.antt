@@ -65,7 +65,8 @@ in_key : HasFeeds key_text IsKeyInRange 0
 in_key = by_parts key_by_parts (in_pair in_address (in_pair in_address (in_pair in_port (in_pair in_port (in_pair (in_byte space refl) (in_pair (in_byte space refl) in_port))))))
 
 in_value : HasFeeds value_text IsValueInRange 1
-in_value = by_parts value_by_parts (in_pair in_count (in_pair in_count (in_pair in_count (in_pair in_count (in_number line_feed 18446744073709551615 1 (omega arith) refl)))))
+in_value = by_parts value_by_parts (in_pair in_count (in_pair in_count (in_pair in_count
+    (in_pair in_count (in_number line_feed 18446744073709551615 1 (omega arith) refl)))))
 
 in_line : HasFeeds flow_line IsFlowInRange 1
 in_line = by_parts flow_by_parts (in_pair in_key in_value)

@@ -146,7 +146,8 @@ abbrev pub value_parts : Value → ValueParts
 value_parts v = (v.packets, (v.octets, (v.first, (v.last, v.flags))))
 
 abbrev pub value_fields : ValueParts → List ℕ
-value_fields = spelled_after (number_then space) (spelled_after (number_then space) (spelled_after (number_then space) (spelled_after (number_then space) (number_then line_feed))))
+value_fields = spelled_after (number_then space) (spelled_after (number_then space)
+    (spelled_after (number_then space) (spelled_after (number_then space) (number_then line_feed))))
 
 abbrev pub AreValueParts : ValueParts → Type 0
 AreValueParts = BothIn IsCount (BothIn IsCount (BothIn IsCount (BothIn IsCount IsCount)))
@@ -157,7 +158,13 @@ value_by_parts = record {
   spelled = λ v. simp append_assoc;
   in_range = λ v h.
       let packets = h.packets in let octets = h.octets in let first = h.first in let last = h.last in let flags = h.flags in
-      record { first = omega arith; second = record { first = omega arith; second = record { first = omega arith; second = record { first = omega arith; second = omega arith } } } };
+      record {
+        first = omega arith;
+        second = record {
+          first = omega arith;
+          second = record { first = omega arith; second = record { first = omega arith; second = omega arith } };
+        };
+      };
 }
 
 same_value : (x y : Value) → value_parts x ≡ value_parts y → x ≡ y

@@ -21,7 +21,8 @@ returns-in_err-last c = rw c.from_residual-in_err-last.ensures
 pub returns-in_err-flags : goal.returns-in_err-flags
 returns-in_err-flags c = rw c.from_residual-in_err-flags.ensures
     (none_by_parts value_by_parts (none_second counts_free c.in_ok-packets.ensures
-    (none_second counts_free c.in_ok-octets.ensures (none_second counts_free c.in_ok-first.ensures (none_second counts_free c.in_ok-last.ensures c.in_err-flags.ensures)))))
+    (none_second counts_free c.in_ok-octets.ensures (none_second counts_free c.in_ok-first.ensures
+    (none_second counts_free c.in_ok-last.ensures c.in_err-flags.ensures)))))
 
 pub returns : goal.returns
 returns c =
