@@ -6,39 +6,13 @@ ghost use Rattle.flow_fold.specs.Key.{key_cmp};
 
 use crate::key::Key;
 use crate::value::Value;
+use item_list::ItemList;
 use std::alloc::Global;
 use std::collections::BTreeMap;
-use std::marker::Model;
 use wire_ports::NoMemory;
 
 /// Flows in a row.
-#[derive(Debug, Drop)]
-pub struct FlowList {
-    items: Vec<(Key, Value)>,
-}
-
-impl Model for FlowList {
-    ghost use Rattle.flow_fold.specs.Flows.{Flows};
-
-    ghost Value = { Flows };
-
-    ghost view = { λ f. f.items.items };
-}
-
-impl FlowList {
-    /// The list of these items.
-    pub fn of_vec(items: Vec<(Key, Value)>) -> Self
-        ensures { result ≡ items.items }
-    {
-        FlowList { items }
-    }
-
-    pub fn as_slice(&self) -> &[(Key, Value)]
-        ensures { result.now ≡ self.now }
-    {
-        self.items.as_slice()
-    }
-}
+pub type FlowList = ItemList<(Key, Value)>;
 
 /// The pairs of a map, by rising key.
 pub fn flows_of(alloc: Global, flows: &BTreeMap<Key, Value>) -> Result<FlowList, NoMemory>
