@@ -1,5 +1,6 @@
 -- What the end of a call says of its answer.
-use Rattle.std.proofs.Common.{◌≡◌, ◌∙◌, ℕ, ◌+◌, ◌≤◌, Bool, true, false, ◌&&◌, not, is_none, cond, List, [], ◌∷◌, Option, None, Some, refl, sym, ap, subst, arith, ◌⊎◌, inl, inr, ⊎_elim}
+use Rattle.std.proofs.Common.{◌≡◌, ◌∙◌, ℕ, ◌+◌, ◌≤◌, Bool, true, false, ◌&&◌, not, is_none, cond, List, [], ◌∷◌, Option, None, Some, refl, sym, ap, subst, arith}
+use Rattle.std.proofs.Common.{inl, inr, ⊎_elim}
 use Rattle.std.proofs.lemmas.Bool.{and_parts, and_right, false≢true}
 use Rattle.big_atomic.specs.Turns.{exchanges, scan_loads}
 use Rattle.cache_hash.proofs.Progress.{wants_as}
@@ -84,8 +85,15 @@ none_is (Some val) e = absurd (false≢true e)
 all_inserts : (key : KeyWords) (val : List ℕ) → AreInserts key (Only (Insert val))
 all_inserts key val there change is = subst (λ (c : Change). IsInsert (call_for key c)) (sym is) tt
 
-pub inserted : {key : KeyWords} {val : List ℕ} {before after : SeatData} (told : Told) → HasEnded key (Only (Insert val)) (Insert val) told before after → IsInserted key val (insert_answer told) before after
-inserted {key} {val} (Plain None) h = record { change = only {change = Insert val} h.ends; there = h.value; quiet = h.quiet (all_inserts key val); removes = keeps_removes refl h.ends; enough = λ many count free e. absurd cc }
+pub inserted : {key : KeyWords} {val : List ℕ} {before after : SeatData} (told : Told) → HasEnded key (Only (Insert val)) (Insert val) told before after
+    → IsInserted key val (insert_answer told) before after
+inserted {key} {val} (Plain None) h = record {
+  change = only {change = Insert val} h.ends;
+  there = h.value;
+  quiet = h.quiet (all_inserts key val);
+  removes = keeps_removes refl h.ends;
+  enough = λ many count free e. absurd cc;
+}
 inserted {key} {val} {before} {after} (Plain (Some there)) h = record {
   change = only {change = Insert val} h.ends;
   there = h.value;
@@ -142,7 +150,8 @@ module _ {key : KeyWords} {old new : List ℕ} {before after : SeatData} where
     same = λ same. h.never (λ there change is. subst NeverChanges (sym is) (same_never old new same));
     removes = keeps_removes refl h.ends;
   }
-  replaced (Plain (Some val)) h = by_value val (is_same val old) refl (only {change = Replace old new} h.ends) h.value (λ same. h.never (λ there change is. subst NeverChanges (sym is) (same_never old new same)))
+  replaced (Plain (Some val)) h = by_value val (is_same val old) refl (only {change = Replace old new} h.ends) h.value
+      (λ same. h.never (λ there change is. subst NeverChanges (sym is) (same_never old new same)))
   replaced (Full needed free) h = record {
     change = only {change = Replace old new} h.ends;
     there = let f = h.ends.full needed free refl in value_is (value_at after.view h.ends.answered.stand.place key) old (not (is_same old new)) f.1.changes;

@@ -1,5 +1,6 @@
 -- How a change is made: the front is copied and installed.
-use Rattle.std.proofs.Common.{◌≡◌, ◌≢◌, ◌∙◌, ℕ, ◌+◌, ◌*◌, ◌/◌, ◌<◌, ◌≤◌, suc, Bool, true, false, ne_eqb, List, [], ◌∷◌, ◌++◌, Option, None, length, take, drop, refl, sym, ap, subst, arith, ◌⊎◌, inl, inr}
+use Rattle.std.proofs.Common.{◌≡◌, ◌≢◌, ◌∙◌, ℕ, ◌+◌, ◌*◌, ◌/◌, ◌<◌, ◌≤◌, suc, Bool, true, false, ne_eqb, List, [], ◌∷◌, ◌++◌, Option, None, length, take, drop, refl, sym, ap, subst, arith}
+use Rattle.std.proofs.Common.{◌⊎◌, inl, inr}
 use Rattle.std.proofs.lemmas.Bool.{cond-false, eqb-true, false≢true}
 use Rattle.std.proofs.lemmas.List.{take-append-drop, take_all}
 use Rattle.big_atomic.proofs.Answered.{HasAnswered, goes_of}
@@ -272,7 +273,8 @@ pub own_front : {shared : ObjectData} {key : KeyWords} {b : Begun shared key} {c
 own_front {key = key} {b = b} {start = start} {change = change} {due = due} {scanned = scanned} {node = node} {mid = mid} {copied = copied} h =
     subst (λ k. HasFront b k start change due scanned node mid copied) (sym (on_key key change b.before.view.plan ∙ h.may.going.cell_is)) h
 
-pub own_installed : {shared : ObjectData} {key : KeyWords} {b : Begun shared key} {cell : ℕ} {start : Start} {change : Change} {due : Due} {scanned : Bool} {node : ℕ} {call : Call} {mid copied after : SeatData}
+pub own_installed : {shared : ObjectData} {key : KeyWords} {b : Begun shared key} {cell : ℕ} {start : Start} {change : Change} {due : Due} {scanned : Bool} {node : ℕ}
+    {call : Call} {mid copied after : SeatData}
     → HasFront b cell start change due scanned node mid copied → call ≡ call_for key change → HasInstalled cell start.version start.word node call copied after
     → HasInstalled (cell_of b.before.view.plan (call_for key change)) start.version start.word node (call_for key change) copied after
 own_installed {key = key} {b = b} {start = start} {change = change} {node = node} {copied = copied} {after = after} f is h =

@@ -84,8 +84,8 @@ pub record Onward (from to : ℕ) (key : KeyWords) (among : Option (List ℕ) �
   pub free : exchanges steps ≡ 0 → KeepsFree (AreInserts key among) mid.free now.free
   pub never : NoneChanges among → exchanges steps ≡ 0
 
-pub scans_on : {from to : ℕ} {key : KeyWords} {among : Option (List ℕ) → Change → Type 0} {cell : ℕ} {b : List Counted} {mid now : SeatData} (scanned : Bool) (due : Call → Type 0) (steps : List Counted) (look : ℕ)
-    (before : SeatData) → Sound mid.view → Onward from to key among cell b mid now → Scans scanned due steps look before mid → Scans scanned due (steps ++ b) look before now
+pub scans_on : {from to : ℕ} {key : KeyWords} {among : Option (List ℕ) → Change → Type 0} {cell : ℕ} {b : List Counted} {mid now : SeatData} (scanned : Bool)
+    (due : Call → Type 0) (steps : List Counted) (look : ℕ) (before : SeatData) → Sound mid.view → Onward from to key among cell b mid now → Scans scanned due steps look before mid → Scans scanned due (steps ++ b) look before now
 scans_on {b = b} false due steps look before sound o s =
     let none = o.none_scanned in
     let none_before = s.none in record { none = omega (arith, scan_loads-append steps b); retired = o.retired ∙ s.retired }
@@ -124,7 +124,8 @@ module _ {shared : ObjectData} {key : KeyWords} {begun : Begun shared key} {cell
   going_of = goes_of i.goes begun.ready.ours
 
 -- looks and loads
-pub looks_onward : {from to cell : ℕ} {b : List Counted} {mid now : SeatData} (key : KeyWords) (among : Option (List ℕ) → Change → Type 0) → OnlyLooks from to cell b mid now → Onward from to key among cell b mid now
+pub looks_onward : {from to cell : ℕ} {b : List Counted} {mid now : SeatData} (key : KeyWords) (among : Option (List ℕ) → Change → Type 0) → OnlyLooks from to cell b mid now
+    → Onward from to key among cell b mid now
 looks_onward key among p = record {
   goes = p.goes;
   paced = p.paced;
@@ -149,7 +150,8 @@ module _ {shared : ObjectData} {key : KeyWords} {begun : Begun shared key} {cell
       let first = begun.ready.law.long in
       omega (arith, ap (length {A = ℕ}) i.idle, ap (length {A = ℕ}) begun.ready.idle, ap (length {A = ℕ}) i.scans.retired)
 
-  abbrev pub after_scan : {call : Call} {need : ℕ} → AsksFor key (HasCome begun.came) call → (claim_of BACK mid.view).stands ≡ true → NeedsNodes call (length mid.view.seen) need mid.view → length mid.free < need
+  abbrev pub after_scan : {call : Call} {need : ℕ} → AsksFor key (HasCome begun.came) call → (claim_of BACK mid.view).stands ≡ true → NeedsNodes call (length mid.view.seen) need mid.view
+      → length mid.free < need
       → Changing begun cell true now
   after_scan {call} {need} due back needs few =
       let view = scan_view s law last in

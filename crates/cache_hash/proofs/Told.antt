@@ -70,7 +70,8 @@ scanned_never key among true steps look before now s never =
     absurd (false≢true (sym (ap (is_change c) asks.3 ∙ (changes_by key asks.1 c ∙ never asks.0 asks.1 asks.2 (c.values (key_number key)))) ∙ s.want.needs.changes))
 
 -- it stays so after looks
-knows_on : {cell : ℕ} (told : Told) (key : KeyWords) (among : Option (List ℕ) → Change → Type 0) (change : Change) (scanned : Bool) (steps : List Counted) (mid now : SeatData) → (c : Cleared cell mid now)
+knows_on : {cell : ℕ} (told : Told) (key : KeyWords) (among : Option (List ℕ) → Change → Type 0) (change : Change) (scanned : Bool) (steps : List Counted) (mid now : SeatData)
+    → (c : Cleared cell mid now)
     → Knows key among change told scanned steps mid → Knows key among change told scanned (steps ++ c.steps) now
 knows_on (Plain there) key among change scanned steps mid now c k = (
   ap (λ (l : List Entry). (state_at l (length l)).values (key_number key)) c.seen ∙ k.0,
@@ -241,13 +242,15 @@ module _ {shared : ObjectData} {key : KeyWords} {b : Begun shared key} {change :
     free_kept : k.scanned ≡ false → exchanges (i.steps ++ clear) ≡ 0 → KeepsFree (AreInserts key (HasCome b.came)) before.free final.free
     free_kept e none_tried = keeps_then (i.untouched e (sym all_tried ∙ none_tried)) (keeps_same (AreInserts key (HasCome b.came)) (ap (λ (z : SeatData). z.free) is))
 
-    kept_for : (scanned : Bool) → Scans scanned (AsksFor key (HasCome b.came)) i.steps i.look before now → k.scanned ≡ scanned → exchanges (i.steps ++ clear) ≡ 0 → scan_loads (i.steps ++ clear) ≡ 0
+    kept_for : (scanned : Bool) → Scans scanned (AsksFor key (HasCome b.came)) i.steps i.look before now → k.scanned ≡ scanned
+        → exchanges (i.steps ++ clear) ≡ 0 → scan_loads (i.steps ++ clear) ≡ 0
         → KeepsNodes before final
     kept_for false s e none_tried none_loaded = record { free = (free_kept e none_tried).nodes; retired = ap (λ (z : View). z.retired) final_view ∙ s.retired }
     kept_for true s e none_tried none_loaded = let all = s.all in let some = i.goes.sound.plan.seats in absurd (omega (arith, all_scanned, ap (λ (p : Plan). p.seats) plan))
 
     -- an insert without an exchange that isn't Full
-    quiet_for : (scanned : Bool) → Scans scanned (AsksFor key (HasCome b.came)) i.steps i.look before now → k.scanned ≡ scanned → AreInserts key (HasCome b.came) → is_full reply ≡ false → exchanges (i.steps ++ clear) ≡ 0
+    quiet_for : (scanned : Bool) → Scans scanned (AsksFor key (HasCome b.came)) i.steps i.look before now → k.scanned ≡ scanned
+        → AreInserts key (HasCome b.came) → is_full reply ≡ false → exchanges (i.steps ++ clear) ≡ 0
         → IsQuiet (i.steps ++ clear) before final
     quiet_for false s e insert not_full none_tried = record {
       free = (free_kept e none_tried).order insert;

@@ -163,13 +163,14 @@ turn_smaller {cell = cell} {last = last} {mid = mid} {now = now} at same l h =
     let more = l.longer in
     let within = g.sound.within in
     let plan : now.view.plan ≡ last.view.plan =
-    ap (λ (z : View). z.plan) g.only ∙ (ap (λ (z : View). z.plan) l.so_far.going.goes.only ∙ (ap (λ (z : SeatData). z.view.plan) same ∙ sym (ap (λ (z : View). z.plan) at.so_far.going.goes.only))) in
+    ap (λ (z : View). z.plan) g.only
+    ∙ (ap (λ (z : View). z.plan) l.so_far.going.goes.only ∙ (ap (λ (z : SeatData). z.view.plan) same ∙ sym (ap (λ (z : View). z.plan) at.so_far.going.goes.only))) in
     let all = ap (λ (p : Plan). p.seats * p.changes) plan in omega arith
 
 -- A TURN'S WALK
 -- by the change that the turn came to this is decided
-pub record DecidesBy {shared : ObjectData} {key : KeyWords} (among : Option (List ℕ) → Change → Type 0) (b : Begun shared key) (cell : ℕ) (start : Start) (change : Change) (decision : Decision)
-    (scanned : Bool) (last : SeatData) : Type 0 where
+pub record DecidesBy {shared : ObjectData} {key : KeyWords} (among : Option (List ℕ) → Change → Type 0) (b : Begun shared key) (cell : ℕ) (start : Start)
+    (change : Change) (decision : Decision) (scanned : Bool) (last : SeatData) : Type 0 where
   pub now : Begun shared key
   pub same : now.before ≡ b.before
   pub by : CameBy among now
@@ -192,8 +193,8 @@ module _ {shared : ObjectData} {key : KeyWords} {b : Begun shared key} {cell : �
   cell_now = sym (ap (λ (p : Plan). key_cell p (key_number key)) plan ∙ i.cell_is)
 
   -- the walk's end, and what is decided there by the change that the turn comes to
-  decided : (change : Change) → MayAsk key change b.before → (decision : Decision) {found : Option (List ℕ)} {now : SeatData} → OnWay cell word key found mid now → IsSeat now → Decides key change found (claimed_records now.view) decision
-      → HasDecided (come_to b found change) cell start change decision scanned now
+  decided : (change : Change) → MayAsk key change b.before → (decision : Decision) {found : Option (List ℕ)} {now : SeatData} → OnWay cell word key found mid now → IsSeat now
+      → Decides key change found (claimed_records now.view) decision → HasDecided (come_to b found change) cell start change decision scanned now
   decided change may decision {found} {now} o law decides = record {
     so_far = tried_too b found change (tried_more t.so_far i.paced (looks_onward key (HasCome b.came) o.way.part) (omega arith));
     turn = turn_more i.steps o.way.steps o.way.kept t.turn;

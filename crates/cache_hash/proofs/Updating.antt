@@ -1,5 +1,5 @@
 -- What the end of an update says of its answer.
-use Rattle.std.proofs.Common.{◌≡◌, ◌∙◌, ℕ, ◌≤◌, ◌&&◌, Bool, cond, not, List, Option, None, Some, refl, sym, subst, arith}
+use Rattle.std.proofs.Common.{◌≡◌, ℕ, ◌&&◌, Bool, cond, not, List, Option, None, Some, refl, sym, subst, arith}
 use Rattle.cache_hash.proofs.Ended.{change_as, keeps_removes}
 use Rattle.cache_hash.specs.Asking.{AsksFor, HasEnded, Puts, call_for, put_change, update_answer}
 use Rattle.cache_hash.specs.Calls.{IsChangeAmong, IsUpdateBy, IsUpdated, value_at}
@@ -21,7 +21,8 @@ use Rattle.step_rules.specs.History.{AreWords, IsKey}
 use Rattle.step_rules.specs.SeatData.{SeatData}
 
 -- the call of an update's change
-update_by : (key : KeyWords) (gives : Option (List ℕ) → List ℕ → Type 0) (there : Option (List ℕ)) (change : Change) → Puts gives there change → IsUpdateBy key gives (call_for key change)
+update_by : (key : KeyWords) (gives : Option (List ℕ) → List ℕ → Type 0) (there : Option (List ℕ)) (change : Change) → Puts gives there change
+    → IsUpdateBy key gives (call_for key change)
 update_by key gives None change p = subst (λ (c : Change). IsUpdateBy key gives (call_for key c)) (sym p.change_is) (refl, p.given)
 update_by key gives (Some old) change p = subst (λ (c : Change). IsUpdateBy key gives (call_for key c)) (sym p.change_is) (refl, p.given)
 
@@ -94,8 +95,8 @@ module _ {key : KeyWords} {gives : Option (List ℕ) → List ℕ → Type 0} {b
       subst (λ (c : Change). (e : HasEnded key (Puts gives) c (Full needed free) before after) × (value_at after.view e.ends.answered.stand.place key ≡ there)) p.change_is (h, refl) in
       full there p.val needed free p.in_range p.given both.0 both.1
 
-pub updated : {key : KeyWords} {gives : Option (List ℕ) → List ℕ → Type 0} {change : Change} {before old after : SeatData} (told : Told) {answer : UpdateAnswer} → answer ≡ update_answer told
-    → before ≡ old → HasEnded key (Puts gives) change told before after → IsUpdated key gives answer old after
+pub updated : {key : KeyWords} {gives : Option (List ℕ) → List ℕ → Type 0} {change : Change} {before old after : SeatData} (told : Told) {answer : UpdateAnswer}
+    → answer ≡ update_answer told → before ≡ old → HasEnded key (Puts gives) change told before after → IsUpdated key gives answer old after
 updated {key} {gives} {change} {before} {old} {after} told {answer} is began h =
     subst (λ (z : UpdateAnswer × SeatData). IsUpdated key gives z.0 z.1 after) (λ j. (sym is j, began j)) (ended told change h)
 

@@ -7,6 +7,7 @@ ghost use Rattle.step_rules.specs.SeatData.{IsOf};
 mod scripts;
 mod small_shares;
 mod threads;
+mod updates;
 mod watchers;
 
 use crate::{

@@ -5,6 +5,7 @@ ghost use Rattle.big_atomic.specs.Ready.{IsReady};
 ghost use Rattle.big_atomic.specs.Seats.{IsUnused};
 ghost use Rattle.step_rules.specs.SeatData.{IsOf};
 
+use super::updates::{COUNTS, count_all};
 use super::watchers::{RAISES, raise, watch};
 use super::{close, exchange, get, key, opened, plan, put, take_out, val};
 use crate::{
@@ -35,6 +36,8 @@ enum Work {
     Churn,
     /// Two raise the values of their keys, and the others find them.
     Watch,
+    /// They count one key.
+    Count,
 }
 
 /// A seat, how many pairs it put in, less those that it took out, and a sum of values.
@@ -154,6 +157,7 @@ fn work_on(rt: &impl Abort, shared: &Shared, seat: Seat, work: Work) -> Worked
     match work {
         Work::Fill => put_all(rt, shared, seat),
         Work::Churn => churn(rt, shared, seat),
+        Work::Count => count_all(rt, shared, seat),
         Work::Watch => {
             if seat.number() % 2 == 0 {
                 return raise(rt, shared, seat);
@@ -273,6 +277,18 @@ fn four_threads_change_eight_keys(rt: HostRuntime) -> Result<(), Fail> {
     } = closed.counts();
     assert_eq!(rt; retired, 0);
     assert_eq!(rt; u64::from(free) + u64::from(live), 26);
+    Ok(())
+}
+
+#[test]
+fn four_threads_count_one_key(rt: HostRuntime) -> Result<(), Fail> {
+    let (shared, first) = opened(rt.alloc(), &plan(&rt, SEATS, 20, 1, COUNTS))?;
+    let Worked { seat, pairs, sum } = work_together(&rt, rt.alloc(), &shared, first, Work::Count)?;
+    let closed = close(&rt, shared, seat);
+    let list = closed.pairs(rt.alloc())?;
+    // One found the key absent, and no count is lost.
+    assert_eq!(rt; pairs, 1);
+    assert_eq!(rt; list.as_slice(), [(key(1, 2), val(sum, 0))].as_slice());
     Ok(())
 }
 

@@ -24,12 +24,19 @@ returns-in-Ends c =
     let e = t.turned in record { ready = e.0; ended = ended_only (t.same ∙ i.1) (e.1.0, ended_as t.by e.1.1) }
 
 pub claim_versioned-start-requires-in-turns-clause-ours : goal.claim_versioned-start-requires-in-turns-clause-ours
-claim_versioned-start-requires-in-turns-clause-ours c = let i = c.turns.invariant in let t = (c.in-Moved.ensures.turned i.0 i.2 (may_ask c.requires.removes c.requires.wide i.1) i.3) in going_of t.turned.so_far.going
+claim_versioned-start-requires-in-turns-clause-ours c =
+    let i = c.turns.invariant in
+    let t = c.in-Moved.ensures.turned i.0 i.2 (may_ask c.requires.removes c.requires.wide i.1) i.3 in
+    going_of t.turned.so_far.going
 
 pub turns-smaller : goal.turns-smaller
-turns-smaller c = let i = c.turns.invariant in let t = (c.in-Moved.ensures.turned i.0 i.2 (may_ask c.requires.removes c.requires.wide i.1) i.3) in turn_smaller i.3 t.same t.turned c.claim_versioned-start-in-turns.ensures.started
+turns-smaller c =
+    let i = c.turns.invariant in
+    let t = c.in-Moved.ensures.turned i.0 i.2 (may_ask c.requires.removes c.requires.wide i.1) i.3 in
+    turn_smaller i.3 t.same t.turned c.claim_versioned-start-in-turns.ensures.started
 
 pub turns-preserved : goal.turns-preserved
 turns-preserved c =
     let i = c.turns.invariant in
-    let t = (c.in-Moved.ensures.turned i.0 i.2 (may_ask c.requires.removes c.requires.wide i.1) i.3) in (t.now, t.same ∙ i.1, t.by, next_turn t.turned c.claim_versioned-start-in-turns.ensures.started)
+    let t = c.in-Moved.ensures.turned i.0 i.2 (may_ask c.requires.removes c.requires.wide i.1) i.3 in
+    (t.now, t.same ∙ i.1, t.by, next_turn t.turned c.claim_versioned-start-in-turns.ensures.started)

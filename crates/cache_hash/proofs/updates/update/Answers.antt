@@ -27,12 +27,19 @@ returns-in-Ends g c =
     }
 
 pub claim_versioned-start-requires-in-turns-clause-ours : goal.claim_versioned-start-requires-in-turns-clause-ours
-claim_versioned-start-requires-in-turns-clause-ours g c = let i = c.turns.invariant in let t = (c.in-Moved.ensures.turned i.0 i.2 i.3) in going_of t.turned.so_far.going
+claim_versioned-start-requires-in-turns-clause-ours g c =
+    let i = c.turns.invariant in
+    let t = c.in-Moved.ensures.turned i.0 i.2 i.3 in
+    going_of t.turned.so_far.going
 
 pub turns-smaller : goal.turns-smaller
-turns-smaller g c = let i = c.turns.invariant in let t = (c.in-Moved.ensures.turned i.0 i.2 i.3) in turn_smaller i.3 t.same t.turned c.claim_versioned-start-in-turns.ensures.started
+turns-smaller g c =
+    let i = c.turns.invariant in
+    let t = c.in-Moved.ensures.turned i.0 i.2 i.3 in
+    turn_smaller i.3 t.same t.turned c.claim_versioned-start-in-turns.ensures.started
 
 pub turns-preserved : goal.turns-preserved
 turns-preserved g c =
     let i = c.turns.invariant in
-    let t = (c.in-Moved.ensures.turned i.0 i.2 i.3) in (t.now, t.same ∙ i.1, t.by, next_turn t.turned c.claim_versioned-start-in-turns.ensures.started)
+    let t = c.in-Moved.ensures.turned i.0 i.2 i.3 in
+    (t.now, t.same ∙ i.1, t.by, next_turn t.turned c.claim_versioned-start-in-turns.ensures.started)
