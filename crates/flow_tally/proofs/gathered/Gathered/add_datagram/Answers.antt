@@ -15,7 +15,7 @@ pub loop-i-init : goal.loop-i-init
 loop-i-init c =
     let before = c.args.self.now.pairs.items in
     record {
-      pairs = c.in_ok-reserve.ensures.items ∙ sym (ap (λ (z : Flows). before ++ z) (pairs_under-none c.header-header.result) ∙ append-nil before);
+      pairs = c.in_ok-reserve.ensures.items ∙ sym (ap (λ (z : Flows). before ++ z) (pairs_under-none (header_of c.args.datagram.now.bytes.now)) ∙ append-nil before);
       room = omega (arith, c.in_ok-reserve.ensures.ok, c.count.ensures);
       datagrams = refl;
     }
