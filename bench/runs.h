@@ -13,7 +13,7 @@
 #include <utility>
 #include <vector>
 
-constexpr size_t WIDTH = 5;
+constexpr size_t WIDTH = 7;
 using Rec = std::array<uint64_t, WIDTH>;
 
 // Of so many calls in a row the last one changes, in a run that is asked for few changes.

@@ -23,14 +23,14 @@ struct FlowKey {
 };
 
 struct Sums {
-    uint64_t packets, octets;
-    uint32_t first, last;
+    uint64_t packets, octets, first, last, flags; // times in milliseconds since 1970
 
     void merge(const Sums &other) {
         packets += other.packets;
         octets += other.octets;
         first = std::min(first, other.first);
         last = std::max(last, other.last);
+        flags |= other.flags;
     }
 };
 
@@ -60,6 +60,13 @@ static std::vector<unsigned char> read_file(const char *name) {
     return bytes;
 }
 
+// A time of the uptime in milliseconds since 1970, by the clock of a header; 0 where it lies before.
+static uint64_t moment(const unsigned char *header, const unsigned char *time) {
+    uint64_t made_at = 1000 * number(header + 8, 4) + number(header + 12, 4) / 1000000;
+    uint64_t time_since = uint32_t(number(header + 4, 4) - number(time, 4));
+    return made_at > time_since ? made_at - time_since : 0;
+}
+
 // Hands each record on, and tells how many datagrams there are.
 template <class Add> uint64_t decode(const std::vector<unsigned char> &bytes, const Add &add) {
     uint64_t datagrams = 0;
@@ -72,7 +79,7 @@ template <class Add> uint64_t decode(const std::vector<unsigned char> &bytes, co
         for (unsigned i = 0; i < count; i++) {
             const unsigned char *r = d + 24 + 48 * i;
             FlowKey key{number(r, 8), number(r + 32, 4) << 32 | number(r + 38, 2) << 16 | number(r + 12, 2)};
-            add(key, Sums{number(r + 16, 4), number(r + 20, 4), (uint32_t)number(r + 24, 4), (uint32_t)number(r + 28, 4)});
+            add(key, Sums{number(r + 16, 4), number(r + 20, 4), moment(d, r + 24), moment(d, r + 28), r[37]});
         }
         at += 24 + 48 * count;
     }
@@ -82,8 +89,8 @@ template <class Add> uint64_t decode(const std::vector<unsigned char> &bytes, co
 [[maybe_unused]] static bool is_before(const Flow &a, const Flow &b) { return a.first < b.first; }
 
 #ifdef SHARED
-static Value words_of(const Sums &sums) { return {sums.packets, sums.octets, uint64_t(sums.first) << 32 | sums.last}; }
-static Sums sums_of(const Value &words) { return {words[0], words[1], uint32_t(words[2] >> 32), uint32_t(words[2])}; }
+static Value words_of(const Sums &sums) { return {sums.packets, sums.octets, sums.first, sums.last, sums.flags}; }
+static Sums sums_of(const Value &words) { return {words[0], words[1], words[2], words[3], words[4]}; }
 
 // Adds the pairs from one place up to another; false where a node is wanting.
 static bool add_part(TableSeat &seat, const std::vector<Flow> &pairs, size_t from, size_t to) {
@@ -115,7 +122,8 @@ static std::vector<Flow> flows_in(Object &object, uint32_t buckets) {
             uint32_t node = next - 1;
             next = object.node_load(node, WIDTH);
             if (next == END) break;
-            Value words{object.node_load(node, 2), object.node_load(node, 3), object.node_load(node, 4)};
+            Value words;
+            for (size_t j = 0; j < words.size(); j++) words[j] = object.node_load(node, 2 + j);
             flows.push_back({{object.node_load(node, 0), object.node_load(node, 1)}, sums_of(words)});
         }
     }
@@ -168,15 +176,15 @@ int main(int argc, char **argv) {
     uint64_t records, datagrams;
     std::vector<Flow> sorted = tally(read_file(argv[1]), argc, argv, records, datagrams);
     std::string out;
-    out.reserve(sorted.size() * 128 + 256);
+    out.reserve(sorted.size() * 160 + 256);
     char line[256];
     uint64_t packets = 0, octets = 0;
     for (auto &[k, v] : sorted) {
         auto byte = [](uint64_t x, int i) { return (unsigned)(x >> (8 * i) & 255); };
-        int n = snprintf(line, sizeof line, "%u.%u.%u.%u %u.%u.%u.%u %u %u %u %u %u %" PRIu64 " %" PRIu64 " %u %u\n",
+        int n = snprintf(line, sizeof line, "%u.%u.%u.%u %u.%u.%u.%u %u %u %u %u %u %" PRIu64 " %" PRIu64 " %" PRIu64 " %" PRIu64 " %" PRIu64 "\n",
             byte(k.high, 7), byte(k.high, 6), byte(k.high, 5), byte(k.high, 4), byte(k.high, 3), byte(k.high, 2), byte(k.high, 1), byte(k.high, 0),
             (unsigned)(k.low >> 48), (unsigned)(k.low >> 32 & 65535), byte(k.low, 3), byte(k.low, 2), (unsigned)(k.low & 65535),
-            v.packets, v.octets, v.first, v.last);
+            v.packets, v.octets, v.first, v.last, v.flags);
         out.append(line, n);
         packets += v.packets;
         octets += v.octets;

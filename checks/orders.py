@@ -5,7 +5,7 @@ nothing, and needs as many nodes as the order of the bucket's records says.
 """
 import re
 
-from scripts import numbers, spelled
+from scripts import KEY_WORDS, RECORD_WORDS, VALUE_WORDS, numbers, spelled
 
 WORD = (1 << 64) - 1
 REGISTERS = 16
@@ -26,7 +26,7 @@ class Course:
 
     def __init__(self, plan: tuple) -> None:
         self.plan = plan  # callers, share, buckets
-        self.registers = ((0,) * 5,) * REGISTERS
+        self.registers = ((0,) * RECORD_WORDS,) * REGISTERS
         self.buckets = {}  # a bucket's (key, value) pairs, the last inserted first
         self.costs = (0,) * plan[0]
 
@@ -60,8 +60,8 @@ class Course:
     def call(self, caller: int, name: str, words: list) -> tuple:
         """The reply, and the course after it and the nodes needed where the call changes the contents."""
         if name in ("find", "insert", "replace", "remove"):
-            return self.call_pair(caller, name, numbers(words[0], 2), [numbers(word, 3) for word in words[1:]])
-        register, records = int(words[0]), [numbers(word, 5) for word in words[1:]]
+            return self.call_pair(caller, name, numbers(words[0], KEY_WORDS), [numbers(word, VALUE_WORDS) for word in words[1:]])
+        register, records = int(words[0]), [numbers(word, RECORD_WORDS) for word in words[1:]]
         there = self.registers[register]
         if name in ("load", "hold"):
             return spelled(there), self, 0
@@ -180,7 +180,7 @@ def last_contents(lines: list) -> dict:
         if register is not None:
             found["register", int(register[1])] = register[2]
         if pair is not None:
-            found["key", numbers(pair[1], 2)] = pair[2]
+            found["key", numbers(pair[1], KEY_WORDS)] = pair[2]
     return found
 
 

@@ -4,6 +4,7 @@ A recipe is a block of commands after a line `<!-- recipe NAME: TOOL.. -->`. Wha
 stands in a block after `<!-- printed -->`; where there is none it prints nothing. With a bad file, with none
 and on a full disk its status isn't 0, and its results aren't there.
 """
+import datetime
 import functools
 import os
 import random
@@ -23,12 +24,12 @@ from running import Checks
 
 MARKED = re.compile(r"<!-- recipe (\w+):([\w ]*) -->\n```sh\n(.*?)```\n(?:<!-- printed -->\n```\n(.*?)```\n)?", re.DOTALL)
 SAMPLE = os.path.join("crates", "flow_tally", "data", "softflowd-1.1.0.nf5")
-COLUMNS = "source,destination,source_port,destination_port,protocol,tos,input,packets,octets,first,last"
-PACKETS, OCTETS = 7, 8
+COLUMNS = "source,destination,source_port,destination_port,protocol,tos,input,packets,octets,first,last,flags"
+PACKETS, OCTETS, FIRST, LAST, FLAGS = 7, 8, 9, 10, 11
 TORN = 40_000  # where the torn file ends
 RESULTS = {  # what a recipe makes, and what isn't there where it fails
     "report": ["report.txt", "flows.txt"], "torn": ["front.nf5"], "talkers": [], "sources": [], "csv": ["report.csv"],
-    "picture": ["top.svg"], "files": [], "reports": ["report.txt", "flows.txt"], "sql": ["flows.db"],
+    "picture": ["top.svg"], "files": [], "reports": ["report.txt", "flows.txt"], "sql": ["flows.db"], "times": [],
 }
 
 
@@ -96,6 +97,14 @@ class Expected:
         rows = sorted(sums.items(), key=lambda row: -row[1][2])
         return "".join(f"{protocol} {count} {packets} {octets}\n" for protocol, (count, packets, octets) in rows)
 
+    def times(self) -> str:
+        """The moments of the flows of the most octets, by their fields as SQL orders them."""
+        def read(moment: str) -> str:
+            seconds, thousandths = divmod(int(moment), 1000)
+            return (datetime.datetime(1970, 1, 1) + datetime.timedelta(seconds=seconds)).isoformat() + f".{thousandths:03}Z"
+        rows = sorted(self.flows, key=lambda flow: (-int(flow[OCTETS]), flow[:2], [int(field) for field in flow[2:7]]))
+        return "".join(" ".join([flow[0], flow[2], flow[OCTETS], read(flow[FIRST]), read(flow[LAST]), flow[FLAGS]]) + "\n" for flow in rows[:5])
+
     def front(self) -> bytes:
         """The datagrams that are whole in the torn file."""
         return self.data[:max(place for place in borders(self.data) if place <= TORN)]
@@ -112,7 +121,7 @@ class Expected:
         return {
             "sample": "", "report": self.last, "tear": "", "torn": self.refusal(1) + Expected(self.front()).last,
             "talkers": self.talkers(), "sources": self.sources(), "csv": "".join(self.sheet()[:3]), "picture": "", "cut": "",
-            "files": self.last, "reports": "", "sql": self.protocols(), "trial": trials.MILLION + "\n",
+            "files": self.last, "reports": "", "sql": self.protocols(), "times": self.times(), "trial": trials.MILLION + "\n",
         }
 
     def files(self, name: str) -> dict:
@@ -244,7 +253,7 @@ def keep_large_sums(checks: Checks, found: list) -> None:
     os.mkdir(folder)
     octets = [2**61 - 1, 2**61 - 2, 2**53 + 1, 2**61 - 3, 2**53, 1]
     expected = Expected(b"")
-    expected.flows = [f"10.0.0.{i} 10.0.0.9 1 2 6 0 1 {2**54 + i} {number} 0 {i}".split() for i, number in enumerate(octets)]
+    expected.flows = [f"10.0.0.{i} 10.0.0.9 1 2 6 0 1 {2**54 + i} {number} 0 {i} {2**i}".split() for i, number in enumerate(octets)]
     expected.lines = [" ".join(flow) + "\n" for flow in expected.flows]
     with open(os.path.join(folder, "flows.txt"), "w", encoding="utf-8") as out:
         out.write("".join(expected.lines))

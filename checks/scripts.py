@@ -1,6 +1,8 @@
 """Scripts to try, and how their numbers are spelled, apart from the program."""
 import random
 
+RECORD_WORDS, KEY_WORDS, VALUE_WORDS = 7, 2, 5
+
 
 def numbers(text: str, width: int) -> tuple:
     given = [int(number) for number in text.split(",")]
@@ -21,8 +23,8 @@ def random_script(seed: int, callers: int, lines: int) -> bytes:
     choose, held, made = random.Random(seed), set(), [f"callers {callers}"]
     for _ in range(lines):
         caller, register = choose.randrange(callers), choose.randrange(16)
-        key, value, other = (tuple_of(choose, width, 3) for width in (2, 3, 3))
-        new, old = tuple_of(choose, 5, 3), choose.choice(("0", tuple_of(choose, 2, 3)))
+        key, value, other = (tuple_of(choose, width, 3) for width in (KEY_WORDS, VALUE_WORDS, VALUE_WORDS))
+        new, old = tuple_of(choose, RECORD_WORDS, 3), choose.choice(("0", tuple_of(choose, 2, 3)))
         calls = [f"load {register}", f"store {register} {new}", f"swap {register} {old} {new}", f"find {key}", f"insert {key} {value}",
                  f"replace {key} {value} {other}", f"remove {key}"]
         calls += ["look", "drop"] if caller in held else [f"hold {register}"] * 2
@@ -44,8 +46,8 @@ def many_swaps(callers: int, count: int) -> bytes:
 def ten_pairs() -> bytes:
     """Ten pairs whose keys and values take all their bits, put in by falling key."""
     most = 2**64 - 1
-    lines = [f"{i % 64} insert {most - i},{i * 977} {most},{i},{most - 1}" for i in range(10)]
-    return ("callers 64\n" + "\n".join(lines) + "\n63 find 18446744073709551615\n0 store 15 0,0,0,0,18446744073709551615").encode()
+    lines = [f"{i % 64} insert {most - i},{i * 977} {most},{i},{most - 1},0,{most}" for i in range(10)]
+    return ("callers 64\n" + "\n".join(lines) + "\n63 find 18446744073709551615\n0 store 15 0,0,0,0,0,0,18446744073709551615").encode()
 
 
 def crowded_script(choose: random.Random, callers: int, count: int) -> bytes:

@@ -6,6 +6,7 @@ mod member;
 mod reading;
 mod session;
 
+use big_atomic::WIDTH;
 use session::{Asked, Outcome, run};
 use std::{env, io};
 
@@ -40,10 +41,10 @@ fn main(rt: HostRuntime) -> io::Result<()> {
     let Outcome { closed, yes, torn } = outcome;
     for reg in 0..closed.plan().registers {
         let record = closed.register(reg);
-        println!(rt;
-            "{} {} {} {} {}",
-            record[0], record[1], record[2], record[3], record[4]
-        )?;
+        for word in &record[..WIDTH - 1] {
+            print!(rt; "{word} ")?;
+        }
+        println!(rt; "{}", record[WIDTH - 1])?;
     }
     println!(rt; "yes {yes} torn {torn}")
 }

@@ -1,7 +1,7 @@
 -- What can be tallied has one tally and one report.
 use Rattle.std.proofs.Common.{◌≡◌, ◌∙◌, ℕ, Some, List, length, sym, ap, ap₂, subst, arith}
 use Rattle.wire_ports.specs.Ports.{Names}
-use Rattle.netflow_five.specs.File.{joined, all_records}
+use Rattle.netflow_five.specs.File.{joined}
 use Rattle.netflow_five.proofs.Files.{one_list}
 use Rattle.flow_fold.specs.Flows.{Flows, value_in}
 use Rattle.flow_fold.specs.Fold.{IsFold}
@@ -15,8 +15,8 @@ use Rattle.flow_tally.proofs.Sources.{one_contents}
 pub one_tally : (contents ds others es : List (List ℕ)) (xs ys : Flows) → contents ≡ others → IsTally contents ds xs → IsTally others es ys → (ds ≡ es) × (xs ≡ ys)
 one_tally contents ds others es xs ys same a b =
     let one = one_list ds es a.file.each b.file.each (sym a.file.whole ∙ ap joined same ∙ b.file.whole) in
-    let fold = subst (λ (z : List (List ℕ)). IsFold (pairs_of (all_records z)) (value_in xs)) one a.fold in
-    (one, fold_list_unique (pairs_of (all_records es)) xs ys a.rising b.rising fold b.fold)
+    let fold = subst (λ (z : List (List ℕ)). IsFold (pairs_of z) (value_in xs)) one a.fold in
+    (one, fold_list_unique (pairs_of es) xs ys a.rising b.rising fold b.fold)
 
 -- the text of a report is one
 pub one_report : (tally : Tally) (names : Names) (a b : List ℕ) → IsPrinted tally (Some names) a → IsPrinted tally (Some names) b → a ≡ b

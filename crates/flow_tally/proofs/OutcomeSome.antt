@@ -5,7 +5,7 @@ use Rattle.std.proofs.lemmas.Bool.{cases_lt}
 use Rattle.std.proofs.lemmas.List.{length-append}
 use Rattle.std.proofs.lemmas.Option.{slice_get-get_or}
 use Rattle.wire_ports.specs.Ports.{Names, bytes_under}
-use Rattle.netflow_five.specs.File.{joined, IsWellFormed, all_records}
+use Rattle.netflow_five.specs.File.{joined, IsWellFormed}
 use Rattle.netflow_five.specs.Generating.{generated}
 use Rattle.netflow_five.proofs.Files.{joined_well}
 use Rattle.netflow_five.proofs.SomeFault.{whole_or_bad}
@@ -51,7 +51,7 @@ module _ (tally : Tally) (names : Names) where
   good_contents : nodes_of tally ≤ most_nodes → (contents : List (List ℕ)) → AreTallied (Some names) tally.source contents → AreGood contents → SomeForTally
   good_contents fits contents told good =
       let ds = joined_well contents good.each in
-      let flows = some_fold (pairs_of (all_records ds.0)) in
+      let flows = some_fold (pairs_of ds.0) in
       let made : IsTally contents ds.0 flows.0 = record { good = good; file = ds.1; rising = flows.1; fold = flows.2 } in
       elim (cases_lt tally.flows (length flows.0)) [
         | inl many ↦ (TooManyFlows tally.flows, (fits, refl, (contents, ds.0, flows.0, told, made, many)))

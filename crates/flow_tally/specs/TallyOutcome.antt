@@ -50,7 +50,7 @@ pub record IsTally (contents ds : List (List ℕ)) (flows : Flows) : Type 0 wher
   pub good : AreGood contents
   pub file : IsFile (joined contents) ds
   pub rising : HasRisingKeys flows
-  pub fold : IsFold (pairs_of (all_records ds)) (value_in flows)
+  pub fold : IsFold (pairs_of ds) (value_in flows)
 
 -- how many records and datagrams there are
 abbrev pub totals_of : List (List ℕ) → Totals
@@ -59,7 +59,7 @@ totals_of ds = record { records = length (all_records ds); datagrams = length ds
 -- the keys and values of all records were added up to these flows on the closed object, by workers that drew their batches
 abbrev pub IsAddedUp : Tally → List (List ℕ) → Flows → ClosedData → Type 0
 IsAddedUp tally ds flows closed =
-    let pairs = pairs_of (all_records ds) in (draws : List Draw) × IsTallied (plan_of_tally pairs tally.workers tally.flows tally.buckets) pairs flows closed draws
+    let pairs = pairs_of ds in (draws : List Draw) × IsTallied (plan_of_tally pairs tally.workers tally.flows tally.buckets) pairs flows closed draws
 
 -- what the answer of a tally says of its contents and of the object on which their records were added up, or why there is none
 abbrev pub GivesText : Tally → List (List ℕ) → List (List ℕ) → Result Answer Status → Type 0

@@ -32,9 +32,11 @@ impl Gathered {
         ensures kept { OnErr result ((self.new.pairs.items ≡ self.old.pairs.items) × (self.new.datagrams ≡ self.old.datagrams)) }
     {
         self.pairs.reserve(datagram.count() as usize)?;
+        let header = datagram.header();
         for i in 0..datagram.count() {
             let flow = datagram.flow(i);
-            self.pairs.push_reserved((key_of(&flow), value_of(&flow)));
+            self.pairs
+                .push_reserved((key_of(&flow), value_of(&header, &flow)));
         }
         self.datagrams += 1;
         Ok(())

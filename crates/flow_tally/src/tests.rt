@@ -15,7 +15,8 @@ use std::thread::Threads;
 use wire_ports::{NamedBytes, SteadyFeed, SteadySink};
 use worker_gate::OpenGate;
 
-/// One datagram with one record: 12 packets, 3400 octets, first 1000, last 2000.
+/// One datagram with one record: 12 packets, 3400 octets, no flags; its first packet came 9, its last 8
+/// seconds before the header, whose clock says 1694498816 seconds since 1970.
 const ONE: [u8; 72] = [
     0x00, 0x05, 0x00, 0x01, 0x00, 0x00, 0x27, 0x10, 0x65, 0x00, 0x00, 0x00, 0x00, 0x00, 0x00, 0x00,
     0x00, 0x00, 0x00, 0x00, 0x00, 0x00, 0x00, 0x00, 0x0a, 0x00, 0x00, 0x01, 0x0a, 0x00, 0x00, 0x02,
@@ -215,51 +216,51 @@ fn reports(rt: HostRuntime) -> Result<(), Fail> {
         &rt,
         "tally a",
         &[Part::One],
-        "10.0.0.1 10.0.0.2 1234 80 6 0 1 12 3400 1000 2000\n\
+        "10.0.0.1 10.0.0.2 1234 80 6 0 1 12 3400 1694498807000 1694498808000 0\n\
          flows 1 packets 12 octets 3400 records 1 datagrams 1\n",
     )?;
     done(
         &rt,
         "tally a",
         &[Part::One, Part::Earlier],
-        "10.0.0.1 10.0.0.2 1234 80 6 0 1 15 4000 500 2000\n\
+        "10.0.0.1 10.0.0.2 1234 80 6 0 1 15 4000 1694498806500 1694498808000 0\n\
          flows 1 packets 15 octets 4000 records 2 datagrams 2\n",
     )?;
     done(
         &rt,
         "tally a",
         &[Part::Records(30)],
-        "10.0.0.1 10.0.0.2 1234 80 6 0 1 360 102000 1000 2000\n\
+        "10.0.0.1 10.0.0.2 1234 80 6 0 1 360 102000 1694498807000 1694498808000 0\n\
          flows 1 packets 360 octets 102000 records 30 datagrams 1\n",
     )?;
     done(
         &rt,
         "tally a",
         &[Part::One, Part::OtherInput],
-        "10.0.0.1 10.0.0.2 1234 80 6 0 1 12 3400 1000 2000\n\
-         10.0.0.1 10.0.0.2 1234 80 6 0 2 12 3400 1000 2000\n\
+        "10.0.0.1 10.0.0.2 1234 80 6 0 1 12 3400 1694498807000 1694498808000 0\n\
+         10.0.0.1 10.0.0.2 1234 80 6 0 2 12 3400 1694498807000 1694498808000 0\n\
          flows 2 packets 24 octets 6800 records 2 datagrams 2\n",
     )?;
     done(
         &rt,
         "tally a",
         &[Part::One, Part::Zero],
-        "10.0.0.1 10.0.0.2 1234 80 6 0 1 12 3400 1000 2000\n\
+        "10.0.0.1 10.0.0.2 1234 80 6 0 1 12 3400 1694498807000 1694498808000 0\n\
          flows 1 packets 12 octets 3400 records 2 datagrams 2\n",
     )?;
     done(
         &rt,
         "tally --flows 1 a",
         &[Part::Large, Part::Large, Part::Large],
-        "10.0.0.1 10.0.0.2 1234 80 6 0 1 12884901885 3 1000 2000\n\
+        "10.0.0.1 10.0.0.2 1234 80 6 0 1 12884901885 3 1694498807000 1694498808000 0\n\
          flows 1 packets 12884901885 octets 3 records 3 datagrams 3\n",
     )?;
     done(
         &rt,
         "tally a",
         &[Part::Real],
-        "192.168.1.10 198.51.100.7 0 2048 1 0 3 5 420 3550000 3554000\n\
-         192.168.1.10 203.0.113.5 49152 443 6 0 3 25 18230 3541200 3555300\n\
+        "192.168.1.10 198.51.100.7 0 2048 1 0 3 5 420 1705032654500 1705032658500 0\n\
+         192.168.1.10 203.0.113.5 49152 443 6 0 3 25 18230 1705032645700 1705032659800 27\n\
          flows 2 packets 30 octets 18650 records 2 datagrams 1\n",
     )
 }
@@ -272,7 +273,7 @@ fn three_files(rt: HostRuntime) -> Result<(), Fail> {
         let (packets, octets) = if source < 300 { (7, 280) } else { (4, 160) };
         writeln!(
             lines,
-            "10.0.{high}.{low} 10.0.0.2 1234 80 6 0 1 {packets} {octets} 1000 2000"
+            "10.0.{high}.{low} 10.0.0.2 1234 80 6 0 1 {packets} {octets} 1694498807000 1694498808000 0"
         )?;
     }
     lines.push_str("flows 3000 packets 12900 octets 516000 records 12900 datagrams 430\n")?;
@@ -338,7 +339,7 @@ fn bad_datagrams(rt: HostRuntime) -> Result<(), Fail> {
 
 #[test]
 fn several_files(rt: HostRuntime) -> Result<(), Fail> {
-    let twice = "10.0.0.1 10.0.0.2 1234 80 6 0 1 24 6800 1000 2000\n\
+    let twice = "10.0.0.1 10.0.0.2 1234 80 6 0 1 24 6800 1694498807000 1694498808000 0\n\
                  flows 1 packets 24 octets 6800 records 2 datagrams 2\n";
     done(&rt, "tally a a", &[Part::One], twice)?;
     done(&rt, "tally a --workers 64 a", &[Part::One], twice)?;

@@ -17,7 +17,7 @@ fn sources_report(alloc: Global) -> Result<String, AllocError> {
         let (high, low) = (source / 256, source % 256);
         writeln!(
             lines,
-            "10.0.{high}.{low} 10.0.0.2 1234 80 6 0 1 3 120 1000 2000"
+            "10.0.{high}.{low} 10.0.0.2 1234 80 6 0 1 3 120 1694498807000 1694498808000 0"
         )?;
     }
     lines.push_str("flows 300 packets 900 octets 36000 records 900 datagrams 30\n")?;
@@ -59,7 +59,7 @@ fn any_number_of_workers(rt: HostRuntime) -> Result<(), Fail> {
 
 #[test]
 fn one_flow_of_many_workers(rt: HostRuntime) -> Result<(), Fail> {
-    let report = "10.0.0.1 10.0.0.2 1234 80 6 0 1 360 102000 1000 2000\n\
+    let report = "10.0.0.1 10.0.0.2 1234 80 6 0 1 360 102000 1694498807000 1694498808000 0\n\
                   flows 1 packets 360 octets 102000 records 30 datagrams 1\n";
     done(
         &rt,
@@ -71,7 +71,7 @@ fn one_flow_of_many_workers(rt: HostRuntime) -> Result<(), Fail> {
         &rt,
         "tally --workers 64 a",
         &[Part::One],
-        "10.0.0.1 10.0.0.2 1234 80 6 0 1 12 3400 1000 2000\n\
+        "10.0.0.1 10.0.0.2 1234 80 6 0 1 12 3400 1694498807000 1694498808000 0\n\
          flows 1 packets 12 octets 3400 records 1 datagrams 1\n",
     )
 }
@@ -89,11 +89,11 @@ fn two_workers_meet(rt: HostRuntime) -> Result<(), Fail> {
     let gate = MeetGate::new(67_108_864);
     let ended = run(&rt, alloc, &words, &mut feed, &mut out, &mut err, &gate);
     assert_eq!(rt; ended.status, Status::Done);
-    let report = "10.0.0.1 10.0.0.2 1234 80 6 0 1 12 3400 1000 2000\n\
+    let report = "10.0.0.1 10.0.0.2 1234 80 6 0 1 12 3400 1694498807000 1694498808000 0\n\
                   flows 1 packets 12 octets 3400 records 1 datagrams 1\n";
     assert_eq!(rt; out.as_slice(), report.as_bytes());
     assert!(rt; gate.met());
-    let report = "10.0.0.1 10.0.0.2 1234 80 6 0 1 12 3400 1000 2000\n\
+    let report = "10.0.0.1 10.0.0.2 1234 80 6 0 1 12 3400 1694498807000 1694498808000 0\n\
                   flows 1 packets 12 octets 3400 records 1 datagrams 1\n";
     assert_eq!(rt; out.as_slice(), report.as_bytes());
     Ok(())

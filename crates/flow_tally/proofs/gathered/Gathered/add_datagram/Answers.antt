@@ -1,18 +1,21 @@
 use Rattle.std.proofs.Common.{◌≡◌, ◌∙◌, ℕ, [], ◌∷◌, ◌++◌, take, refl, sym, ap, arith, append_assoc}
 use Rattle.std.proofs.lemmas.List.{append-nil}
 use Rattle.flow_fold.specs.Flows.{Flows}
-use Rattle.flow_fold.specs.Pair.{pairs_of, record_key, record_value}
+use Rattle.flow_fold.specs.Pair.{pairs_under, record_key, record_value}
+use Rattle.flow_fold.proofs.Pairs.{pairs_under-none}
 use Rattle.flow_fold.specs.declared.key.Key.{Key}
 use Rattle.flow_fold.specs.declared.value.Value.{Value}
 use Rattle.netflow_five.specs.Datagram.{records_of, count_of}
-use Rattle.flow_tally.proofs.Gathering.{pairs_none, pairs_more, pairs_whole}
+use Rattle.netflow_five.specs.Header.{header_of}
+use Rattle.netflow_five.specs.declared.header.Header.{Header}
+use Rattle.flow_tally.proofs.Gathering.{pairs_more, pairs_whole}
 use Rattle.flow_tally.proofs.gathered.Gathered.add_datagram.Goals as goal
 
 pub loop-i-init : goal.loop-i-init
 loop-i-init c =
     let before = c.args.self.now.pairs.items in
     record {
-      pairs = c.in_ok-reserve.ensures.items ∙ sym (ap (λ (z : Flows). before ++ z) pairs_none ∙ append-nil before);
+      pairs = c.in_ok-reserve.ensures.items ∙ sym (ap (λ (z : Flows). before ++ z) (pairs_under-none (header_of c.args.datagram.now.bytes.now)) ∙ append-nil before);
       room = omega (arith, c.in_ok-reserve.ensures.ok, c.count.ensures);
       datagrams = refl;
     }
@@ -22,12 +25,13 @@ loop-i-preserved c =
     let before = c.args.self.now.pairs.items in
     let d = c.args.datagram.now.bytes.now in
     let r = c.flow-flow.result in
+    let h = header_of d in
     record {
       pairs = c.push_reserved.ensures.items
-          ∙ ap (λ (p : Key × Value). c.loop-i.self.pairs.items ++ p ∷ []) (λ i. (c.key_of.ensures i, c.value_of.ensures i))
-          ∙ ap (λ (z : Flows). z ++ (record_key r, record_value r) ∷ []) c.loop-i.invariant.pairs
-          ∙ append_assoc before (pairs_of (take c.loop-i.i (records_of d))) ((record_key r, record_value r) ∷ [])
-          ∙ ap (λ (z : Flows). before ++ z) (sym (pairs_more d c.loop-i.i r c.flow-flow.ensures));
+          ∙ ap (λ (p : Key × Value). c.loop-i.self.pairs.items ++ p ∷ []) (λ i. (c.key_of.ensures i, (c.value_of.ensures ∙ ap (λ (header : Header). record_value header r) c.header-header.ensures) i))
+          ∙ ap (λ (z : Flows). z ++ (record_key r, record_value h r) ∷ []) c.loop-i.invariant.pairs
+          ∙ append_assoc before (pairs_under h (take c.loop-i.i (records_of d))) ((record_key r, record_value h r) ∷ [])
+          ∙ ap (λ (z : Flows). before ++ z) (sym (pairs_more h d c.loop-i.i r c.flow-flow.ensures));
       room = omega (arith, c.push_reserved.ensures.len, c.push_reserved.ensures.capacity, c.loop-i.invariant.room);
       datagrams = c.loop-i.invariant.datagrams;
     }
@@ -37,7 +41,7 @@ returns-clause-adds c =
     let d = c.args.datagram.now.bytes.now in
     let all : c.loop-i.i ≡ count_of d = omega (arith, c.count-i-end.ensures, c.loop-i-test.false, c.loop-i.auto.i-end) in
     record {
-      pairs = c.loop-i.invariant.pairs ∙ ap (λ (n : ℕ). c.args.self.now.pairs.items ++ pairs_of (take n (records_of d))) all
+      pairs = c.loop-i.invariant.pairs ∙ ap (λ (n : ℕ). c.args.self.now.pairs.items ++ pairs_under (header_of d) (take n (records_of d))) all
           ∙ ap (λ (z : Flows). c.args.self.now.pairs.items ++ z) (pairs_whole d);
       datagrams = omega (arith, c.loop-i.invariant.datagrams);
     }
