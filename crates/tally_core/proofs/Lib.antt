@@ -18,7 +18,6 @@ pub mod Many
 pub mod Merged
 pub mod OnObject
 pub mod Once
-pub mod Paying
 pub mod Places
 pub mod Reclaimed
 pub mod Rows

@@ -1,14 +1,14 @@
 -- A worker that scans between two pairs.
-use Rattle.std.proofs.Common.{◌≡◌, ◌∙◌, ◌≤◌, ◌+◌, false, length, ap, subst, sym}
+use Rattle.std.proofs.Common.{◌≡◌, ◌∙◌, ◌≤◌, ◌+◌, [], append-nil, false, length, ap, subst, sym}
 use Rattle.std.specs.List.{AllByRecursion, AllZip}
 use Rattle.big_atomic.specs.Ready.{IsReady}
 use Rattle.big_atomic.specs.Seats.{Stays}
 use Rattle.flow_fold.specs.Flows.{Flows}
 use Rattle.hazard_claims.specs.Scanning.{IsScan}
 use Rattle.step_rules.specs.SeatData.{ObjectData, SeatData, holds_record}
-use Rattle.step_rules.specs.declared.plan.Plan.{Plan}
+use Rattle.tally_core.proofs.Attempts.{updates_on}
 use Rattle.tally_core.specs.Adding.{Adds, EndsFull, IsTallyCall, adding_in}
-use Rattle.tally_core.specs.Attempts.{IsAdding, IsPaidFor}
+use Rattle.tally_core.specs.Attempts.{IsAdding}
 
 -- it goes on as it was: a scan adds no stand, and the seat has seen no more
 pub reclaimed : {shared : ObjectData} {before after : SeatData} (added : Flows) → IsReady shared after → IsScan before after
@@ -23,7 +23,12 @@ reclaimed {shared} {before} {after} added ready s was = record {
   calls = subst (λ (z : SeatData). AllByRecursion IsTallyCall z.view.stands) (sym s.same) was.calls;
   left = subst (λ (z : SeatData). shared.plan.changes ≤ z.view.changes + length added) (sym s.same) was.left;
   ends = subst (λ (z : SeatData). EndsFull false z.view.stands) (sym s.same) was.ends;
-  paid = subst (λ (z : SeatData). IsPaidFor shared.plan z) (sym s.same) was.paid;
+  updates = updates_on added (record {
+    plan = ap (λ (z : SeatData). z.view.plan) s.same;
+    numbers = ap (λ (z : SeatData). z.view.numbers) s.same;
+    stands = ([], ap (λ (z : SeatData). z.view.stands) s.same ∙ sym (append-nil before.view.stands));
+    seen = ([], ap (λ (z : SeatData). z.view.seen) s.same ∙ sym (append-nil before.view.seen));
+  }) (ap (λ (z : SeatData). z.view.stands) s.same) was.updates;
 }
 
 pub reclaimed_stays : {before after : SeatData} → IsScan before after → Stays before after

@@ -1,8 +1,9 @@
 -- A worker of a tally, between its draws.
-use Rattle.std.proofs.Common.{◌≡◌, ◌∙◌, ℕ, ◌+◌, ◌<◌, ◌≤◌, ◌^◌, suc, Bool, true, false, not, List, [], ◌∷◌}
-use Rattle.std.proofs.Common.{◌++◌, Option, Some, None, append-nil, length, length-append, take, vec_capacity, Vec, refl, sym, ap, subst, arith}
+use Rattle.std.proofs.Common.{◌≡◌, ◌∙◌, ℕ, ◌+◌, ◌<◌, ◌≤◌, ◌^◌, suc, All, Bool, true, false, not, List, [], ◌∷◌}
+use Rattle.std.proofs.Common.{◌++◌, Option, Some, None, append-nil, length, length-append, slice_index_or, take, vec_capacity, Vec, refl, sym, ap, subst, arith}
 use Rattle.std.specs.declared.alloc.Global.{Global}
 use Rattle.std.proofs.lemmas.Grind.{flat_map-append}
+use Rattle.std.proofs.lemmas.List.Elements.{All-from_get_or, All-from_recursion}
 use Rattle.std.proofs.lemmas.List.{take_all}
 use Rattle.big_atomic.proofs.Sharing.{ready_quiet}
 use Rattle.flow_fold.specs.Flows.{Flows}
@@ -10,7 +11,7 @@ use Rattle.step_rules.specs.SeatData.{ObjectData, SeatData}
 use Rattle.tally_core.proofs.Attempts.{unused_adding}
 use Rattle.tally_core.proofs.Batches.{few_drawn}
 use Rattle.tally_core.specs.Adding.{HasAdded}
-use Rattle.tally_core.specs.Attempts.{HasAddedFirst, IsAdding}
+use Rattle.tally_core.specs.Attempts.{AreUpdates, HasAddedFirst, IsAdding}
 use Rattle.tally_core.specs.Drawing.{AreBatchesOf, Drawer, HasBegun, HasDrawn, HasWorked, IsDrawing, TellsDrawn}
 use Rattle.tally_core.specs.Draws.{batch_of, batches_of, drawn_pairs}
 use Rattle.tally_core.specs.Workers.{IsDone}
@@ -35,10 +36,14 @@ pub few_turns : {pairs : Flows} {workers : ℕ} {batches : BatchesData} {one : D
     → length one.told.drawn.items < 2 ^ 32
 few_turns tells are few = omega (arith, few_draws tells, are.count, few)
 
--- the worker's stands add the first of these pairs
-has_added : {shared : ObjectData} (pairs : Flows) (full : Bool) (count : ℕ) {seat : SeatData} → count ≤ length pairs → IsAdding shared (take count pairs) full seat
-    → (full ≡ false → count ≡ length pairs) → HasAdded pairs full seat.view.stands
-has_added pairs full count within is all = record { count = count; within = within; added = is.adds; in_range = is.in_range; calls = is.calls; all = all; ends = is.ends }
+-- the worker's stands add the first of these pairs, by one update each
+abbrev HasUpdated : Flows → SeatData → Bool → Type 0
+HasUpdated pairs seat full = (added : HasAdded pairs full seat.view.stands) × AreUpdates (take added.count pairs) full seat.view
+
+has_updated : {shared : ObjectData} (pairs : Flows) (full : Bool) (count : ℕ) {seat : SeatData} → count ≤ length pairs → IsAdding shared (take count pairs) full seat
+    → (full ≡ false → count ≡ length pairs) → HasUpdated pairs seat full
+has_updated pairs full count within is all =
+    (record { count = count; within = within; added = is.adds; in_range = is.in_range; calls = is.calls; all = all; ends = is.ends }, is.updates)
 
 is_done : {shared : ObjectData} {added : Flows} {full : Bool} {seat : SeatData} → IsAdding shared added full seat → IsDone shared seat
 is_done {shared} {seat = seat} is = record { ours = is.ready.ours; law = is.ready.law; quiet = ready_quiet shared seat is.ready is.none_held }
@@ -54,7 +59,10 @@ module _ {shared : ObjectData} {batches : BatchesData} {pairs : Flows} {old : Dr
   -- no batch was left
   pub ended : HasPlace batches old None place → HasWorked shared batches pairs (record { seat = old.seat; told = record { batches = place; drawn = old.told.drawn; full = old.told.full } })
   ended now =
-      let all = drawn_pairs pairs old.told.drawn.items in record {
+      let all = drawn_pairs pairs old.told.drawn.items in
+      let whole = subst (HasUpdated all old.seat) (sym was.not_full)
+      (has_updated all false (length all) (omega arith) (subst (λ (l : Flows). IsAdding shared l false old.seat) (sym (take_all (length all) all (omega arith))) was.adding) (λ _. refl)) in
+      record {
         done = is_done was.adding;
         one = was.adding.one;
         tells = record {
@@ -62,9 +70,8 @@ module _ {shared : ObjectData} {batches : BatchesData} {pairs : Flows} {old : Dr
           drawn = was.tells.drawn ∙ ap (λ (s : BatchSeatData). s.view.drawn) (sym now.draws.1);
         };
         ended = λ _. ap (λ (s : BatchSeatData). s.view.ended) now.draws.1;
-        added = subst (λ b. HasAdded all b old.seat.view.stands) (sym was.not_full)
-            (has_added all false (length all) (omega arith) (subst (λ (l : Flows). IsAdding shared l false old.seat) (sym (take_all (length all) all (omega arith))) was.adding) (λ _. refl));
-        paid = was.adding.paid;
+        added = whole.0;
+        updates = whole.1;
       }
 
   -- a batch was drawn
@@ -124,7 +131,12 @@ module _ {shared : ObjectData} {batches : BatchesData} {pairs : Flows} {old : Dr
     went_on false drawn seat pushed room first =
         let front = drawn_pairs pairs old.told.drawn.items in
         let all = front ++ batch_of pairs x in
-        let same : all ≡ drawn_pairs pairs drawn.items = sym both ∙ ap (drawn_pairs pairs) (sym pushed) in record {
+        let same : all ≡ drawn_pairs pairs drawn.items = sym both ∙ ap (drawn_pairs pairs) (sym pushed) in
+        let whole = subst (λ (l : Flows). HasUpdated l seat true) same
+        (has_updated all true (length front + first.count) (omega (arith, first.within, length-append front (batch_of pairs x)))
+        (subst (λ (l : Flows). IsAdding shared l true seat) (sym (take_behind front (batch_of pairs x) first.count)) first.adding)
+        (λ e. let h : true ≡ false = e in absurd cc)) in
+        record {
           done = is_done first.adding;
           one = first.adding.one;
           tells = record {
@@ -132,9 +144,11 @@ module _ {shared : ObjectData} {batches : BatchesData} {pairs : Flows} {old : Dr
             drawn = pushed ∙ sym drawn_is;
           };
           ended = λ e. let h : true ≡ false = e in absurd cc;
-          added = subst (λ (l : Flows). HasAdded l true seat.view.stands) same
-              (has_added all true (length front + first.count) (omega (arith, first.within, length-append front (batch_of pairs x)))
-              (subst (λ (l : Flows). IsAdding shared l true seat) (sym (take_behind front (batch_of pairs x) first.count)) first.adding)
-              (λ e. let h : true ≡ false = e in absurd cc));
-          paid = first.adding.paid;
+          added = whole.0;
+          updates = whole.1;
         }
+
+-- what holds at each place of a list
+pub all_each : {X : Type 0} (P : X → Type 0) (xs : List X) → ((i : ℕ) (d : X) → i < length xs → P (slice_index_or xs i d)) → All P xs
+all_each P [] each = All-from_recursion P [] tt
+all_each P (x ∷ later) each = All-from_get_or P (x ∷ later) x (λ i l. each i x l)

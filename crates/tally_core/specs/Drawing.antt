@@ -1,12 +1,12 @@
 -- A worker of a tally, from its first draw to its last.
-use Rattle.std.specs.Prelude.{◌≡◌, ℕ, ◌<◌, ◌≤◌, Bool, true, false, List, [], flat_map, length, map, vec_capacity}
+use Rattle.std.specs.Prelude.{◌≡◌, ℕ, ◌<◌, ◌≤◌, Bool, true, false, List, [], flat_map, length, map, take, vec_capacity}
 use Rattle.std.specs.List.{list_any}
 use Rattle.big_atomic.specs.Seats.{IsUnused}
 use Rattle.flow_fold.specs.Flows.{Flows}
 use Rattle.step_rules.specs.SeatData.{ObjectData}
 use Rattle.step_rules.specs.Views.{number}
 use Rattle.tally_core.specs.Adding.{HasAdded}
-use Rattle.tally_core.specs.Attempts.{IsAdding, IsPaidFor}
+use Rattle.tally_core.specs.Attempts.{AreUpdates, IsAdding}
 use Rattle.tally_core.specs.Draws.{batches_of, drawn_pairs}
 use Rattle.tally_core.specs.Workers.{IsDone}
 use Rattle.tally_core.specs.declared.draws.Draw.{Draw}
@@ -58,14 +58,14 @@ pub record IsDrawing (shared : ObjectData) (batches : BatchesData) (pairs : Flow
   pub adding : IsAdding shared (drawn_pairs pairs one.told.drawn.items) false one.seat
 
 -- a worker that has done: its stands add the pairs of the batches that it drew, in order, and it was told that there is none left; or its last
--- stand is Full, and it went no further. Its further tries are paid for
+-- stand is Full, and it went no further. Each stand is of one update for its pair
 pub record HasWorked (shared : ObjectData) (batches : BatchesData) (pairs : Flows) (drawer : Drawer) : Type 0 where
   pub done : IsDone shared drawer.seat
   pub one : length drawer.seat.view.numbers ≡ 1
   pub tells : TellsDrawn batches drawer
   pub ended : drawer.told.full ≡ false → drawer.told.batches.view.ended ≡ true
   pub added : HasAdded (drawn_pairs pairs drawer.told.drawn.items) drawer.told.full drawer.seat.view.stands
-  pub paid : IsPaidFor shared.plan drawer.seat
+  pub updates : AreUpdates (take added.count (drawn_pairs pairs drawer.told.drawn.items)) drawer.told.full drawer.seat.view
 
 -- a batch was drawn and its pairs were added, or the worker has done
 abbrev pub HasDrawn : ObjectData → BatchesData → Flows → Bool → Drawer → Drawer → Type 0

@@ -1,26 +1,15 @@
 //! Pairs, which a worker of a tally adds one after the other.
-ghost use Rattle.std.specs.Prelude.{◌≡◌, ◌+◌, ◌<◌, ◌≤◌, None, Some, false, length, not};
+ghost use Rattle.std.specs.Prelude.{◌≡◌, ◌+◌, ◌<◌, ◌≤◌, false, length, not};
 ghost use Rattle.big_atomic.specs.Seats.{Stays};
 ghost use Rattle.flow_fold.specs.Flows.{Flows};
 ghost use Rattle.tally_core.specs.Adding.{AreOfValue, Merges, key_words};
-ghost use Rattle.tally_core.specs.Attempts.{HasAddedFirst, HasAddedOne, HasTried, IsAdding, IsTrying};
+ghost use Rattle.tally_core.specs.Attempts.{HasAddedFirst, HasAddedOne, IsAdding, PutsMerged};
 
 use crate::ahead::{AHEAD, load_pairs_ahead, reclaim_many};
 use big_atomic::{Seat, Shared};
-use cache_hash::{Insert, Replace, find, insert, replace};
+use cache_hash::{Update, update};
 use flow_fold::{Key, Value, merge};
 use seat_history::{KeyWords, ValWords};
-
-/// What comes of one call for a pair.
-#[derive(Drop)]
-pub(crate) enum Try {
-    /// The pair is added.
-    Added,
-    /// Another caller was first: the key's value is this now.
-    Again { there: Option<ValWords> },
-    /// The pair isn't added, since fewer nodes are free than are needed.
-    Full,
-}
 
 /// Adds the pairs in order, until a call is answered Full, and answers whether all are added. No memory
 /// is taken.
@@ -42,20 +31,18 @@ pub(crate) fn add_pairs(shared: &Shared, seat: &mut Seat, pairs: &[(Key, Value)]
     true
 }
 
-// Adds the pair, and answers whether it is added. Each further try has a change of another caller to the
-// key's value.
+// Adds the pair by one update, and answers whether it is added.
 fn add_pair(shared: &Shared, seat: &mut Seat, key: Key, value: Value) -> bool
     requires adding { (added : Flows) × IsAdding shared.now added false seat.old × (length added < shared.now.plan.changes) }
     ensures added { (added : Flows) → IsAdding shared.now added false seat.old → HasAddedOne shared.now added (key, value) result seat.new }
     ensures stays { Stays seat.old seat.new }
 {
-    let mut there = find(shared, seat, words_of_key(key));
-    'tries: loop {
-        match try_pair(shared, seat, key, value, there) {
-            Try::Added => return true,
-            Try::Again { there: found } => there = found,
-            Try::Full => return false,
-        }
+    let merged = |there: Option<ValWords>| -> ValWords
+        ensures { PutsMerged value there result }
+    { words_to_put(there, value) };
+    match update(shared, seat, words_of_key(key), merged) {
+        Update::Done { .. } => true,
+        Update::Full { .. } => false,
     }
 }
 
@@ -69,52 +56,13 @@ pub(crate) fn words_of_key(key: Key) -> KeyWords
     }
 }
 
-// One call for the pair, where this is what the seat knows of the key's value.
-fn try_pair(
-    shared: &Shared,
-    seat: &mut Seat,
-    key: Key,
-    value: Value,
-    there: Option<ValWords>,
-) -> Try
-    requires trying { (added : Flows) × IsTrying shared.now added (key_words key) there seat.old × (length added < shared.now.plan.changes) }
-    ensures tried { (added : Flows) → IsTrying shared.now added (key_words key) there seat.old
-        → HasTried shared.now added (key, value) result seat.old seat.new }
-    ensures stays { Stays seat.old seat.new }
+// The value's words, where none are there, and else those of the value there with this one merged into it.
+fn words_to_put(there: Option<ValWords>, value: Value) -> ValWords
+    ensures { PutsMerged value there result }
 {
     match there {
-        None => try_insert(shared, seat, key, value),
-        Some(old) => try_replace(shared, seat, key, value, old),
-    }
-}
-
-// Inserts the pair, where the key isn't there.
-fn try_insert(shared: &Shared, seat: &mut Seat, key: Key, value: Value) -> Try
-    requires trying { (added : Flows) × IsTrying shared.now added (key_words key) None seat.old × (length added < shared.now.plan.changes) }
-    ensures tried { (added : Flows) → IsTrying shared.now added (key_words key) None seat.old
-        → HasTried shared.now added (key, value) result seat.old seat.new }
-    ensures stays { Stays seat.old seat.new }
-{
-    match insert(shared, seat, words_of_key(key), value.words()) {
-        Insert::Done => Try::Added,
-        Insert::Present(there) => Try::Again { there: Some(there) },
-        Insert::Full { .. } => Try::Full,
-    }
-}
-
-// Replaces the value that the key has by that with the pair's merged into it.
-fn try_replace(shared: &Shared, seat: &mut Seat, key: Key, value: Value, old: ValWords) -> Try
-    requires trying { (added : Flows) × IsTrying shared.now added (key_words key) (Some old) seat.old × (length added < shared.now.plan.changes) }
-    ensures tried { (added : Flows) → IsTrying shared.now added (key_words key) (Some old) seat.old
-        → HasTried shared.now added (key, value) result seat.old seat.new }
-    ensures stays { Stays seat.old seat.new }
-{
-    let merged = merge_words(old, value);
-    match replace(shared, seat, words_of_key(key), old, merged) {
-        Replace::Yes => Try::Added,
-        Replace::Found(there) => Try::Again { there: Some(there) },
-        Replace::Absent => Try::Again { there: None },
-        Replace::Full { .. } => Try::Full,
+        None => value.words(),
+        Some(old) => merge_words(old, value),
     }
 }
 
