@@ -15,7 +15,6 @@ use Rattle.flow_fold.specs.declared.value.Value.{Value}
 use Rattle.seat_history.specs.declared.call.Call.TheVariants.{Insert, Replace}
 use Rattle.seat_history.specs.declared.call.Call.{Call}
 use Rattle.seat_history.specs.declared.key.KeyWords.{KeyWords}
-use Rattle.seat_history.specs.declared.reply.Reply.{Reply}
 use Rattle.step_rules.specs.Lawful.{is_full}
 use Rattle.step_rules.specs.SeatData.{ObjectData, SeatData}
 use Rattle.step_rules.specs.declared.view.Stand.{Stand}

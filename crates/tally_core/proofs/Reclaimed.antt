@@ -1,5 +1,5 @@
 -- A worker that scans between two pairs.
-use Rattle.std.proofs.Common.{◌≡◌, ◌∙◌, ◌≤◌, ◌+◌, [], append-nil, false, length, ap, subst, sym}
+use Rattle.std.proofs.Common.{◌∙◌, ◌≤◌, ◌+◌, [], append-nil, false, length, ap, subst, sym}
 use Rattle.std.specs.List.{AllByRecursion, AllZip}
 use Rattle.big_atomic.specs.Ready.{IsReady}
 use Rattle.big_atomic.specs.Seats.{Stays}

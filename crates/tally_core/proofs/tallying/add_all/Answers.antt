@@ -1,4 +1,4 @@
-use Rattle.std.proofs.Common.{◌∙◌, ◌<◌, ℕ, length, slice_index_or, subst, sym}
+use Rattle.std.proofs.Common.{◌∙◌, ◌<◌, ℕ, slice_index_or, subst, sym}
 use Rattle.big_atomic.proofs.Jobs.{if_ok, jobs_back}
 use Rattle.big_atomic.specs.Seats.{Stays}
 use Rattle.tally_core.proofs.Works.{all_each}
