@@ -5,7 +5,9 @@ ghost use Rattle.cache_hash.specs.Places.{KnowsKey};
 ghost use Rattle.cache_hash.specs.Room.{HasRoom};
 ghost use Rattle.visit_counter.specs.Visits.{CameLate, HasCalled, HasVisited, Works, insert_tried, is_counted, replace_tried, visits};
 
-use cache_hash::{Insert, KeyWords, Replace, Seat, Shared, ValWords, find, insert, replace};
+use cache_hash::{
+    Insert, KeyWords, Replace, Seat, Shared, VALUE_WIDTH, ValWords, find, insert, replace,
+};
 
 /// What a try to count a visit came to.
 #[derive(Clone, Copy, Drop)]
@@ -38,11 +40,20 @@ fn told_replace(answer: Replace) -> Tried
     }
 }
 
+// The value of a page with so many visits.
+fn value_of(count: u64) -> ValWords
+    ensures { visits result ≡ count }
+{
+    let mut val = [0; VALUE_WIDTH];
+    val[0] = count;
+    val
+}
+
 // One visit more than these.
 fn one_more(old: ValWords) -> ValWords
     ensures { visits result ≡ (visits old + 1) % 2 ^ 64 }
 {
-    [old[0].wrapping_add(1), 0, 0]
+    value_of(old[0].wrapping_add(1))
 }
 
 // The page's first visit.
@@ -53,7 +64,8 @@ fn try_insert(shared: &Shared, seat: &mut Seat, page: KeyWords) -> Tried
     ensures called { HasCalled shared.now page (is_counted result) seat.old seat.new }
     ensures late { CameLate shared.now page result seat.old seat.new }
 {
-    let answer = insert(shared, seat, page, [1, 0, 0]);
+    let first = value_of(1);
+    let answer = insert(shared, seat, page, first);
     told_insert(answer)
 }
 
