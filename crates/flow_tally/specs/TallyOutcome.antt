@@ -1,5 +1,5 @@
 -- What a tally determines: its flows, what is printed of them, and why nothing is.
-use Rattle.std.specs.Prelude.{◌≡◌, ℕ, ◌+◌, ◌*◌, ◌^◌, ◌<◌, ◌≤◌, List, [], ◌∷◌, length, Option, Some, Result, Ok, Err}
+use Rattle.std.specs.Prelude.{◌≡◌, ℕ, ◌+◌, ◌*◌, ◌^◌, ◌<◌, ◌≤◌, List, [], ◌∷◌, length, Option, Result, Ok, Err}
 use Rattle.wire_ports.specs.Ports.{Names}
 use Rattle.netflow_five.specs.File.{joined, IsFile, all_records}
 use Rattle.netflow_five.specs.Generating.{generated}

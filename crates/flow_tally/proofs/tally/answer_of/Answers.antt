@@ -1,4 +1,4 @@
-use Rattle.std.proofs.Common.{◌≡◌, ◌∙◌, ◌≤◌, ◌^◌, length, ap, ap₂, refl, sym, subst, arith}
+use Rattle.std.proofs.Common.{◌≡◌, ◌∙◌, ◌≤◌, ◌^◌, length, ap, ap₂, sym, subst, arith}
 use Rattle.flow_fold.specs.Flows.{Flows}
 use Rattle.flow_fold.specs.Pair.{pairs_of}
 use Rattle.flow_report.specs.declared.totals.Totals.{Totals}
