@@ -183,10 +183,8 @@ def cut_while_read(checks: Checks, rest: int) -> bool:
         line = f"flow_tally: file 1 offset {count * len(FULL)}: short header, {rest} bytes left\n"
         ends_so(checks, "a file that is cut within a datagram while it is read", running, 6, b"", line)
     else:
-        records = 30 * count
-        out = f"10.0.0.1 10.0.0.2 1234 80 6 0 1 {12 * records} {3400 * records} 1000 2000\n"
-        out += f"flows 1 packets {12 * records} octets {3400 * records} records {records} datagrams {count}\n"
-        ends_so(checks, "a file that is cut between datagrams while it is read", running, 0, out.encode(), "")
+        report = fold.report([FULL * count])
+        ends_so(checks, "a file that is cut between datagrams while it is read", running, 0, report, "")
     return True
 
 
