@@ -30,6 +30,7 @@ TORN = 40_000  # where the torn file ends
 RESULTS = {  # what a recipe makes, and what isn't there where it fails
     "report": ["report.txt", "flows.txt"], "torn": ["front.nf5"], "talkers": [], "sources": [], "csv": ["report.csv"],
     "picture": ["top.svg"], "files": [], "reports": ["report.txt", "flows.txt"], "sql": ["flows.db"], "times": [],
+    "letters": [], "syn": [], "timeline": ["timeline.svg"],
 }
 
 
@@ -105,6 +106,25 @@ class Expected:
         rows = sorted(self.flows, key=lambda flow: (-int(flow[OCTETS]), flow[:2], [int(field) for field in flow[2:7]]))
         return "".join(" ".join([flow[0], flow[2], flow[OCTETS], read(flow[FIRST]), read(flow[LAST]), flow[FLAGS]]) + "\n" for flow in rows[:5])
 
+    def letters(self) -> str:
+        """The first flows' flags as letters."""
+        def spelled(flags: str) -> str:
+            return "".join(letter if int(flags) >> bit & 1 else "." for bit, letter in enumerate("FSRPAU"))
+        return "".join(" ".join([flow[0], flow[2], flow[1], flow[3], spelled(flow[FLAGS])]) + "\n" for flow in self.flows[:3])
+
+    def syn(self) -> str:
+        """The flows of TCP that only ever sent SYN."""
+        found = [f"{flow[0]} {flow[1]} {flow[3]}\n" for flow in self.flows if flow[4] == "6" and flow[FLAGS] == "2"]
+        return "".join(found[:3]) + f"{len(found)}\n"
+
+    def seconds(self) -> bytes:
+        """How many flows began in each second."""
+        counts = {}
+        for flow in self.flows:
+            second = int(flow[FIRST]) // 1000
+            counts[second] = counts.get(second, 0) + 1
+        return "".join(f"{second} {counts[second]}\n" for second in sorted(counts)).encode()
+
     def front(self) -> bytes:
         """The datagrams that are whole in the torn file."""
         return self.data[:max(place for place in borders(self.data) if place <= TORN)]
@@ -120,7 +140,8 @@ class Expected:
     def printed(self) -> dict:
         return {
             "sample": "", "report": self.last, "tear": "", "torn": self.refusal(1) + Expected(self.front()).last,
-            "talkers": self.talkers(), "sources": self.sources(), "csv": "".join(self.sheet()[:3]), "picture": "", "cut": "",
+            "talkers": self.talkers(), "sources": self.sources(), "csv": "".join(self.sheet()[:3]), "picture": "",
+            "letters": self.letters(), "syn": self.syn(), "timeline": "", "cut": "",
             "files": self.last, "reports": "", "sql": self.protocols(), "times": self.times(), "trial": trials.MILLION + "\n",
         }
 
@@ -134,6 +155,8 @@ class Expected:
             return {"report.csv": "".join(self.sheet()).encode()}
         if name == "cut":
             return cut(self.data)
+        if name == "timeline":
+            return {"seconds.part": self.seconds()}
         if name == "reports":
             return {"flows.txt": "".join(line for part in thirds(self.data) for line in Expected(part).lines).encode()}
         return {}
