@@ -1,4 +1,4 @@
-//! Adds up NetFlow version 5 exports: packets, octets, first and last time per flow.
+//! Adds up NetFlow version 5 exports: packets, octets, first and last moment and TCP flags per flow.
 #![tactic(auto)]
 
 mod answer;
