@@ -35,5 +35,7 @@ pub use stores::store;
 pub use swaps::compare_and_swap;
 // All that a user needs beside the calls.
 pub use seat_history::{Rec, WIDTH};
-pub use step_rules::{Building, Closed, Counts, Place, Plan, Seat, Shared, TooLarge, build};
+pub use step_rules::{
+    Building, Closed, Counts, OutOfRange, Place, Plan, Seat, Shared, TooLarge, build,
+};
 pub use wire_ports::NoMemory;

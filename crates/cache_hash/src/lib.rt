@@ -30,8 +30,8 @@ pub use replaces::replace;
 pub use updates::update;
 // All that a user needs beside the calls.
 pub use big_atomic::{
-    Building, Closed, Counts, NoMemory, Plan, Seat, Shared, TooLarge, build, join_all, reclaim,
-    split_all,
+    Building, Closed, Counts, NoMemory, OutOfRange, Plan, Seat, Shared, TooLarge, build, join_all,
+    reclaim, split_all,
 };
 pub use seat_history::{KeyWords, VALUE_WIDTH, ValWords};
 pub use step_rules::bucket_index;

@@ -14,6 +14,7 @@ pub mod Looks
 pub mod Nodes
 pub mod Order
 pub mod Plays
+pub mod Ranges
 pub mod Readers
 pub mod Recent
 pub mod Records

@@ -15,6 +15,7 @@ use crate::view::View;
 use atomic_table::Perch;
 use seat_history::{Call, PairList, PairMap, Rec, WIDTH};
 use std::alloc::Global;
+use std::fmt;
 use std::marker::Model;
 use wire_ports::NoMemory;
 
@@ -46,6 +47,14 @@ impl Model for Closed {
     ghost invariant = { λ c. IsFull c.words.words × (slots_len c.words.slots ≡ 0) × EndsWith c.plan (slots_items c.words.words) c.last.view.seen
         × (length c.free.items + live_nodes c.plan c.last.view.seen + length c.retired.items ≡ nodes c.plan) × (nodes c.plan ≤ MOST_NODES)
         × IsPlan c.plan × (c.cells_start ≡ cells_at c.plan) × (c.nodes_start ≡ nodes_at c.plan) × IsHistory c.plan c.last.view.seen };
+}
+
+impl fmt::Debug for Closed {
+    fn fmt<W: fmt::Write>(&self, f: &mut fmt::Formatter<W>) -> fmt::Result {
+        f.debug_struct("Closed")
+            .field("plan", &self.plan)
+            .finish_non_exhaustive()
+    }
 }
 
 impl Closed {

@@ -5,6 +5,7 @@ ghost use Rattle.step_rules.specs.declared.layout.TheConstants.{CELL_WIDTH, CLAI
 
 use crate::plan::Plan;
 use seat_history::WIDTH;
+use thiserror::Error;
 
 /// How many words a node has: a record's, and the next word.
 pub const NODE_WIDTH: usize = WIDTH + 1;
@@ -33,7 +34,8 @@ pub struct Layout {
 }
 
 /// The plan has too many nodes: this many.
-#[derive(Clone, Copy, Debug, Drop, PartialEq, Eq)]
+#[derive(Clone, Copy, Debug, Drop, PartialEq, Eq, Error)]
+#[error("{nodes} nodes, and an object has at most 16777216")]
 pub struct TooLarge {
     pub nodes: u64,
 }

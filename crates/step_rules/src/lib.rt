@@ -11,6 +11,7 @@ mod laws;
 mod layout;
 mod lists;
 mod opening;
+mod out_of_range;
 mod place;
 mod plan;
 mod plays;
@@ -34,6 +35,7 @@ pub use laws::{
 };
 pub use layout::{CELL_WIDTH, CLAIMS, END, Layout, MOST_NODES, NODE_WIDTH, TooLarge};
 pub use opening::{Building, build};
+pub use out_of_range::OutOfRange;
 pub use place::Place;
 pub use plan::Plan;
 pub use rule::Law;

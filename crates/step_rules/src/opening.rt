@@ -16,12 +16,15 @@ use crate::view::View;
 use atomic_table::Table;
 use seat_history::{Call, WIDTH};
 use std::alloc::{AllocError, Global};
+use thiserror::Error;
 
 /// Why an object wasn't built.
-#[derive(Clone, Copy, Debug, Drop, PartialEq, Eq)]
+#[derive(Clone, Copy, Debug, Drop, PartialEq, Eq, Error)]
 pub enum Building {
     /// The plan has this many nodes.
+    #[error("{nodes} nodes, and an object has at most 16777216")]
     TooLarge { nodes: u64 },
+    #[error("out of memory")]
     NoMemory,
 }
 

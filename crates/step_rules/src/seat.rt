@@ -10,6 +10,7 @@ use crate::layout::{BACK, CLAIMS};
 use crate::lists::{holds, take_out};
 use crate::view::View;
 use seat_history::Call;
+use std::fmt;
 use std::marker::Model;
 
 /// A caller's place at a shared object: the numbers under which it calls, the nodes that are its own,
@@ -58,6 +59,15 @@ impl Model for Seat {
     ghost invariant = { λ s. IsTied s.inner.me s.numbers s.first s.fresh s.holds_record s.free.items s.holding.items s.noted.items s.claims (vec_capacity s.free)
         (vec_capacity s.holding) (vec_capacity s.retired) (vec_capacity s.noted) × (s.least ≡ number s.inner.me.0) × (s.changes ≡ s.inner.me.0.changes) × (s.removes ≡ s.inner.me.0.removes)
         × (s.retired.items ≡ s.inner.me.0.retired) × IsScan s.inner.me.0 s.scan_next s.scan_old s.scan_found.items (vec_capacity s.scan_found) };
+}
+
+impl fmt::Debug for Seat {
+    fn fmt<W: fmt::Write>(&self, f: &mut fmt::Formatter<W>) -> fmt::Result {
+        f.debug_struct("Seat")
+            .field("number", &self.least)
+            .field("numbers", &self.numbers)
+            .finish_non_exhaustive()
+    }
 }
 
 impl Seat {

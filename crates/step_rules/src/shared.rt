@@ -8,6 +8,7 @@ use crate::rule::Law;
 use crate::view::View;
 use seat_history::Call;
 use std::alloc::Global;
+use std::fmt;
 use std::marker::Model;
 
 /// A shared object: words that many seats use at once, under one rule.
@@ -32,6 +33,14 @@ impl Model for Shared {
 
     ghost invariant = { λ s. IsPlan s.plan × (nodes s.plan ≤ MOST_NODES) × (s.plan ≡ s.table.shared.key) × (s.table.shared.table_id.words ≡ words s.plan)
         × (s.cells_start ≡ cells_at s.plan) × (s.nodes_start ≡ nodes_at s.plan) × (s.table.shared.table_id.slots ≡ 0) };
+}
+
+impl fmt::Debug for Shared {
+    fn fmt<W: fmt::Write>(&self, f: &mut fmt::Formatter<W>) -> fmt::Result {
+        f.debug_struct("Shared")
+            .field("plan", &self.plan)
+            .finish_non_exhaustive()
+    }
 }
 
 impl Shared {

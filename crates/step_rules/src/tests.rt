@@ -1,5 +1,5 @@
-//! Values from outside: the buckets of keys, and an object that nobody has changed.
-use crate::{Counts, Plan, bucket_index, build};
+//! Values from outside: the buckets of keys, an object that nobody has changed, and what is printed.
+use crate::{Building, Counts, Plan, bucket_index, build};
 use seat_history::{KeyWords, WIDTH};
 use std::test::Fail;
 
@@ -28,6 +28,10 @@ fn a_new_object_is_empty(rt: HostRuntime) -> Result<(), Fail> {
         bucket_index(shared.plan().buckets, KeyWords { k0: 1, k1: 0 }),
         9
     );
+    assert_eq!(rt;
+        format!(in rt.alloc(); "{seat:?}")?.as_str(),
+        "Seat { number: 0, numbers: 1, .. }"
+    );
     let closed = shared.close(seat);
     assert_eq!(rt; closed.register(1), [0; WIDTH]);
     assert!(rt; closed.pairs(rt.alloc())?.as_slice().is_empty());
@@ -39,5 +43,68 @@ fn a_new_object_is_empty(rt: HostRuntime) -> Result<(), Fail> {
             retired: 0
         }
     );
+    Ok(())
+}
+
+const PLAN: Plan = Plan {
+    seats: 64,
+    share: 1 << 22,
+    registers: 64,
+    buckets: 1 << 20,
+    changes: 1 << 32,
+    removes: 1 << 20,
+};
+
+#[test]
+fn refused_plans_print_the_number_and_its_limit(rt: HostRuntime) -> Result<(), Fail> {
+    assert!(rt; PLAN.check().is_ok());
+    let large = Building::TooLarge { nodes: 16777217 };
+    assert_eq!(rt;
+        format!(in rt.alloc(); "{large}")?.as_str(),
+        "16777217 nodes, and an object has at most 16777216"
+    );
+    let refused = [
+        (Plan { seats: 0, ..PLAN }, "0 seats, and a plan has 1 to 64"),
+        (
+            Plan { share: 0, ..PLAN },
+            "a share of 0 nodes, and a plan has 1 to 4194304",
+        ),
+        (
+            Plan {
+                registers: 65,
+                ..PLAN
+            },
+            "65 registers, and a plan has at most 64",
+        ),
+        (
+            Plan {
+                buckets: 1048577,
+                ..PLAN
+            },
+            "1048577 buckets, and a plan has at most 1048576",
+        ),
+        (
+            Plan {
+                changes: 4294967297,
+                removes: 1048577,
+                ..PLAN
+            },
+            "4294967297 changes, and a plan has at most 4294967296",
+        ),
+        (
+            Plan {
+                removes: 1048577,
+                ..PLAN
+            },
+            "1048577 removes, and a plan has at most 1048576",
+        ),
+    ];
+    for (plan, text) in refused {
+        let told = match plan.check() {
+            Ok(()) => format!(in rt.alloc(); "in range")?,
+            Err(cause) => format!(in rt.alloc(); "{cause}")?,
+        };
+        assert_eq!(rt; told.as_str(), text);
+    }
     Ok(())
 }
