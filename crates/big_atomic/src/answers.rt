@@ -1,20 +1,27 @@
+use thiserror::Error;
+
 /// What a store answers.
-#[derive(Clone, Copy, Debug, Drop, PartialEq, Eq)]
+#[derive(Clone, Copy, Debug, Drop, PartialEq, Eq, Error)]
 pub enum Stored {
     /// The register is the new record.
+    #[error("stored")]
     Done,
     /// The register stays, since fewer nodes are free than are needed.
+    #[error("full: {need} nodes are needed, and {free} are free")]
     Full { need: u32, free: u32 },
 }
 
 /// What a compare-and-swap answers.
-#[derive(Clone, Copy, Debug, Drop, PartialEq, Eq)]
+#[derive(Clone, Copy, Debug, Drop, PartialEq, Eq, Error)]
 pub enum Swap {
     /// The register was the old record, and is the new one.
+    #[error("swapped")]
     Yes,
     /// The register wasn't the old record.
+    #[error("not the old record")]
     No,
     /// The register was the old record and stays so, since fewer nodes are free than are needed.
+    #[error("full: {need} nodes are needed, and {free} are free")]
     Full { need: u32, free: u32 },
 }
 
