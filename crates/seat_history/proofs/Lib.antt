@@ -1,5 +1,6 @@
 pub mod Blank
 pub mod Changed
+pub mod FirstPairs
 pub mod Histories
 pub mod Numbered
 pub mod Replies

@@ -164,7 +164,7 @@ sorted_from_above : (n : ℕ) (pairs : Pairs) → AreAbove n pairs → AllByRecu
 sorted_from_above n [] h = tt
 sorted_from_above n (pair ∷ pairs) h = (greater n (key_number pair.0) h.0, sorted_from_above n pairs h.1)
 
-sorted_from_rise : (pairs : Pairs) → Rise pairs → IsStrictlySortedBy nat_cmp (map key_number (keys_of pairs))
+pub sorted_from_rise : (pairs : Pairs) → Rise pairs → IsStrictlySortedBy nat_cmp (map key_number (keys_of pairs))
 unfolding IsStrictlySortedBy
 sorted_from_rise [] h = tt
 sorted_from_rise (pair ∷ pairs) h = (sorted_from_above (key_number pair.0) pairs h.0, sorted_from_rise pairs h.1)

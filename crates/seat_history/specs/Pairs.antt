@@ -1,5 +1,5 @@
 -- A finite map as its pairs in a row.
-use Rattle.std.specs.Prelude.{◌≡◌, ℕ, ◌<◌, ◌^◌, ◌==◌, All, List, Option, map}
+use Rattle.std.specs.Prelude.{◌≡◌, ℕ, ◌<◌, ◌^◌, ◌==◌, All, Bool, true, not, List, Option, Some, None, map}
 use Rattle.std.specs.List.Sorted.{IsStrictlyIncreasing}
 use Rattle.std.specs.Map.{lookup, keys_of}
 use Rattle.seat_history.specs.Key.{key_number}
@@ -27,3 +27,8 @@ pub record IsPairInRange (pair : KeyWords × List ℕ) : Type 0 where
   pub k0 : pair.0.k0 < 2 ^ 64
   pub k1 : pair.0.k1 < 2 ^ 64
   pub value : All (λ word. word < 2 ^ 64) pair.1
+
+-- the number isn't the last one, if any
+abbrev pub differs : Option ℕ → ℕ → Bool
+differs None number = true
+differs (Some last) number = not (last == number)

@@ -13,6 +13,7 @@ mod pair_map;
 mod plain;
 mod registers;
 mod reply;
+mod sorting;
 #[cfg(test)]
 mod tests;
 mod words;

@@ -1,7 +1,6 @@
 // The pairs of the object of one thread, by the keys' numbers.
-ghost use Rattle.std.specs.Prelude.{◌≡◌, All, IfOk, OnOk, OnErr, Some, None};
+ghost use Rattle.std.specs.Prelude.{◌≡◌, All, IfOk, OnOk, OnErr};
 ghost use Rattle.std.specs.Option.{option_map_or};
-ghost use Rattle.seat_history.specs.Contents.{set_at};
 ghost use Rattle.seat_history.specs.Key.{key_number};
 ghost use Rattle.seat_history.specs.Pairs.{ArePairsOf, IsPairInRange};
 ghost use Rattle.seat_history.specs.Plain.{values_of};
@@ -38,15 +37,6 @@ pub(crate) fn insert(map: &mut Map, key: KeyWords, val: ValWords) -> Result<Repl
             Ok(Reply::Done)
         }
     }
-}
-
-// Gives a key a value, whether it has one or not.
-pub(crate) fn put(map: &mut Map, key: KeyWords, val: ValWords) -> Result<(), AllocError>
-    ensures ok { OnOk result (values_of map.new ≡ set_at (values_of map.old) (key_number key) (Some val)) }
-    ensures err { OnErr result (values_of map.new ≡ values_of map.old) }
-{
-    map.insert(key.number(), val)?;
-    Ok(())
 }
 
 pub(crate) fn replace(map: &mut Map, key: KeyWords, old: ValWords, new: ValWords) -> Reply

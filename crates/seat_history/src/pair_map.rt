@@ -5,17 +5,17 @@ ghost use Rattle.seat_history.specs.Pairs.{ArePairsOf, IsPairInRange};
 ghost use Rattle.seat_history.specs.Plain.{found_in};
 
 use crate::key::KeyWords;
-use crate::map::{Map, pairs_of, put};
 use crate::pair_list::PairList;
+use crate::sorting::{first_pairs, sort_latest_first};
 use crate::words::ValWords;
 use std::alloc::Global;
-use std::collections::BTreeMap;
 use wire_ports::NoMemory;
 
-/// Values under keys. `found_in` says which key has which.
+/// Values under keys, given once and listed at the end. `found_in` says which key has which.
 #[derive(Drop)]
 pub struct PairMap {
-    map: Map,
+    /// The pairs given, in order. Of a key's values the last one counts.
+    given: Vec<(KeyWords, ValWords)>,
 }
 
 impl PairMap {
@@ -24,7 +24,7 @@ impl PairMap {
         ensures { (number : ℕ) → found_in result number ≡ None }
     {
         PairMap {
-            map: BTreeMap::new(alloc),
+            given: Vec::new(alloc),
         }
     }
 
@@ -33,15 +33,17 @@ impl PairMap {
         ensures ok { OnOk result (found_in self.new ≡ set_at (found_in self.old) (key_number key) (Some val)) }
         ensures err { OnErr result (found_in self.new ≡ found_in self.old) }
     {
-        put(&mut self.map, key, val)?;
+        self.given.push((key, val))?;
         Ok(())
     }
 
     /// The pairs, by rising key.
-    pub fn pairs(&self, alloc: Global) -> Result<PairList, NoMemory>
-        ensures pairs { IfOk result (λ pairs. ArePairsOf (found_in self.now) pairs) }
+    pub fn into_pairs(self, alloc: Global) -> Result<PairList, NoMemory>
+        ensures pairs { IfOk result (λ pairs. ArePairsOf (found_in self) pairs) }
         ensures in_range { IfOk result (λ pairs. All IsPairInRange pairs) }
     {
-        Ok(PairList::of_vec(pairs_of(alloc, &self.map)?))
+        let mut given = self.given;
+        sort_latest_first(&mut given)?;
+        Ok(PairList::of_vec(first_pairs(alloc, &given)?))
     }
 }

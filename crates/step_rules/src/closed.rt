@@ -93,7 +93,7 @@ impl Closed {
             let backup = self.words.word(self.cells_start + CELL_WIDTH * cell + 1);
             read_chain(&self.words, self.nodes_start, nodes, backup / 2, &mut map)?;
         }
-        map.pairs(alloc)
+        map.into_pairs(alloc)
     }
 
     // How many nodes there are.

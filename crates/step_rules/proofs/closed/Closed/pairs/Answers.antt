@@ -54,4 +54,4 @@ returns-clause-pairs c =
     c.loop-bucket.invariant
     ∙ (ap (bucket_values z.plan z.history) (end ∙ ap (λ (d : ClosedData). d.plan.buckets) c.self.view_is)
     ∙ (λ i n. all_values z.plan z.history n (subst (λ (d : ClosedData). IsHistory d.plan d.history) c.self.view_is k.8) i)) in
-    subst (λ f. IfOk c.pairs.result (λ pairs. ArePairsOf f pairs)) all c.pairs.ensures.pairs
+    subst (λ f. IfOk c.into_pairs.result (λ pairs. ArePairsOf f pairs)) all c.into_pairs.ensures.pairs
