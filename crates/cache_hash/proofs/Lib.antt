@@ -13,4 +13,5 @@ mod Walking
 pub mod KeySums
 pub mod LaterPlaces
 pub mod Room
+pub mod UpdateSums
 pub mod FewKeys

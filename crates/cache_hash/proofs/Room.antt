@@ -1,11 +1,13 @@
 -- A seat with room is never short of nodes.
-use Rattle.std.proofs.Common.{◌≡◌, ◌∙◌, ℕ, ◌+◌, ◌*◌, ◌<◌, ◌≤◌, ◌==◌, suc, Bool, true, false, List, [], ◌∷◌, cond, length, nat_lt, refl, ap, subst, arith, take, drop}
+use Rattle.std.proofs.Common.{◌≡◌, ◌∙◌, Option, ℕ, ◌+◌, ◌*◌, ◌<◌, ◌≤◌, ◌==◌, suc, Bool, true, false, List, [], ◌∷◌, cond, length, nat_lt, refl, ap, subst, arith, take, drop}
 use Rattle.std.proofs.lemmas.List.{length-append, length-drop, length-take}
+use Rattle.big_atomic.proofs.Adding.{answered_more, none_after}
 use Rattle.big_atomic.specs.Calls.{Answered}
 use Rattle.big_atomic.specs.Ready.{IsReady}
 use Rattle.big_atomic.specs.Seats.{IsUnused}
-use Rattle.cache_hash.specs.Calls.{IsKeyChange}
-use Rattle.cache_hash.specs.Room.{HasNodesLeft, HasRoom, IsNotFull}
+use Rattle.cache_hash.specs.Calls.{IsChangeAmong, IsKeyChange, IsUpdated, is_updated, update_call, update_reply}
+use Rattle.cache_hash.specs.Room.{Fits, HasNodesLeft, HasRoom, IsNeverShort, IsNotFull}
+use Rattle.cache_hash.specs.declared.answers.Update.{Update as UpdateAnswer}
 use Rattle.seat_history.specs.Contents.{zeros}
 use Rattle.seat_history.specs.declared.call.Call.{Call}
 use Rattle.seat_history.specs.declared.call.Call.TheVariants.{Insert, Replace, Remove}
@@ -72,15 +74,20 @@ most_needed rs (Replace key old new) need n short needs = let below = at_below r
 most_needed rs (Remove key) need n short needs = let below = at_below rs needs.0 needs.1.rec needs.1.at in omega (arith, out_need needs.0 need needs.2, below, short)
 most_needed rs _ need n short needs = omega (arith, needs)
 
-pub no_call_is_full : (shared : ObjectData) (call : Call) (reply : Reply) (changed : Bool) (before after : SeatData) → HasRoom shared.plan → IsReady shared before → HasNodesLeft shared before
-    → IsKeyChange call reply changed before after → IsNotFull reply
-no_call_is_full shared call reply changed before after room ready nodes e need free is =
+-- whatever the call may have been to make
+pub no_change_is_full : {due : Call → Type 0} (shared : ObjectData) (call : Call) (reply : Reply) (changed : Bool) (before after : SeatData) → HasRoom shared.plan → IsReady shared before
+    → HasNodesLeft shared before → IsChangeAmong due call reply changed before after → IsNotFull reply
+no_change_is_full shared call reply changed before after room ready nodes e need free is =
     let short : stock before.view < 4 * shared.plan.seats + need = subst (λ (p : Plan). stock before.view < 4 * p.seats + need) ready.ours.plan (e.short need free is) in
     let few : need ≤ length after.view.seen + 2 = most_needed (found_at after.view.plan after.view.seen e.answered.stand.place call) call need (length after.view.seen)
     (found_short after.view.plan after.view.seen e.answered.stand.place call) (e.full need free is).1.needs in
     let most : length after.view.seen ≤ shared.plan.seats * shared.plan.changes =
     subst (λ (p : Plan). length after.view.seen ≤ p.seats * p.changes) (e.answered.stood.plan ∙ ready.ours.plan) e.answered.stood.within in
     omega (arith, short, few, most, nodes, room)
+
+pub no_call_is_full : (shared : ObjectData) (call : Call) (reply : Reply) (changed : Bool) (before after : SeatData) → HasRoom shared.plan → IsReady shared before → HasNodesLeft shared before
+    → IsKeyChange call reply changed before after → IsNotFull reply
+no_call_is_full shared call = no_change_is_full {due = λ other. other ≡ call} shared call
 
 cost_one : (n : ℕ) (e : Edit) → cost_of n e ≤ 1
 cost_one n (put new) = by_test (n == 0) where
@@ -117,3 +124,32 @@ unused_has_nodes shared seat u =
     let one : seat.view.plan.share * length seat.view.numbers ≡ shared.plan.share * 1 = λ i. (u.ready.ours.plan i).share * u.one i in
     let changes = u.changes in
     omega (arith, all, one, changes)
+
+pub unused_is_never_short : (shared : ObjectData) (seat : SeatData) → HasRoom shared.plan → IsUnused shared seat → IsNeverShort shared seat
+unused_is_never_short shared seat room u = record { ready = u.ready; none_held = u.none_held; room = room; nodes = unused_has_nodes shared seat u }
+
+spent_one : (s : Stand) → spent s ≤ 1
+spent_one s = by_test s.changes
+  where
+    by_test : (b : Bool) → cond b 1 0 ≤ 1
+    by_test true = omega arith
+    by_test false = omega arith
+
+pub update_fits : {gives : Option (List ℕ) → List ℕ → Type 0} (shared : ObjectData) (key : KeyWords) (answer : UpdateAnswer) (before after : SeatData) → IsNeverShort shared before
+    → IsReady shared after → IsUpdated key gives answer before after → Fits shared answer before after
+update_fits shared key answer before after fits ready e =
+    let call : Call = update_call key e.found e.val in
+    let a = e.change.answered in
+    let spends = a.stood.changes in
+    let most = spent_one a.stand in record {
+      not_full = λ need free is.
+          no_change_is_full shared call (update_reply answer) (is_updated e.val answer) before after fits.room fits.ready fits.nodes e.change need free (ap update_reply is);
+      never_short = record {
+        ready = ready;
+        none_held = none_after e.change.hold fits.none_held;
+        room = fits.room;
+        nodes = nodes_stay_left shared _ call (update_reply answer) before after fits.ready ready fits.nodes a;
+      };
+      spends = omega (arith, spends, most);
+      stays = (answered_more a).stays;
+    }

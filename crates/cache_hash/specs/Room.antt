@@ -1,8 +1,12 @@
 -- Plans and seats whose changes are never short of nodes.
-use Rattle.std.specs.Prelude.{◌≢◌, ℕ, ◌+◌, ◌*◌, ◌≤◌}
+use Rattle.std.specs.Prelude.{◌≡◌, ◌≢◌, ℕ, ◌+◌, ◌*◌, ◌≤◌, false}
+use Rattle.big_atomic.specs.Ready.{IsReady}
+use Rattle.big_atomic.specs.Seats.{Stays}
+use Rattle.cache_hash.specs.declared.answers.Update.{Update as UpdateAnswer}
+use Rattle.cache_hash.specs.declared.answers.Update.TheVariants.{Full as UpdateFull}
 use Rattle.seat_history.specs.declared.reply.Reply.{Reply}
 use Rattle.seat_history.specs.declared.reply.Reply.TheVariants.{Full}
-use Rattle.step_rules.specs.SeatData.{ObjectData, SeatData}
+use Rattle.step_rules.specs.SeatData.{ObjectData, SeatData, holds_record}
 use Rattle.step_rules.specs.Views.{stock}
 use Rattle.step_rules.specs.declared.plan.Plan.{Plan}
 
@@ -17,3 +21,17 @@ HasNodesLeft shared seat = shared.plan.share + seat.view.changes ≤ stock seat.
 -- the reply isn't Full
 abbrev pub IsNotFull : Reply → Type 0
 IsNotFull reply = (need free : ℕ) → reply ≢ Full need free
+
+-- a seat with which no call is Full: it is ready and holds no record, its plan has room, and it has its nodes
+pub record IsNeverShort (shared : ObjectData) (seat : SeatData) : Type 0 where
+  pub ready : IsReady shared seat
+  pub none_held : holds_record seat.view ≡ false
+  pub room : HasRoom shared.plan
+  pub nodes : HasNodesLeft shared seat
+
+-- an update that isn't Full, spends a change at most, and leaves the seat such a one
+pub record Fits (shared : ObjectData) (answer : UpdateAnswer) (before after : SeatData) : Type 0 where
+  pub not_full : (need free : ℕ) → answer ≢ UpdateFull need free
+  pub never_short : IsNeverShort shared after
+  pub spends : before.view.changes ≤ after.view.changes + 1
+  pub stays : Stays before after

@@ -5,19 +5,22 @@ ghost use Rattle.big_atomic.specs.Calls.{Answered};
 ghost use Rattle.big_atomic.specs.Ready.{IsReady};
 ghost use Rattle.big_atomic.specs.Registers.{end_of};
 ghost use Rattle.big_atomic.specs.Seats.{IsUnused};
-ghost use Rattle.big_atomic.specs.Sums.{AddUpTo, Adding, Shows};
-ghost use Rattle.cache_hash.specs.Calls.{IsFound, IsInserted, IsKeyChange, IsReplaced};
+ghost use Rattle.big_atomic.specs.Sums.{Adding, Shows};
+ghost use Rattle.cache_hash.specs.Calls.{IsFound, IsInserted, IsKeyChange, IsReplaced, IsUpdated};
 ghost use Rattle.cache_hash.specs.Keys.{HasFewKeys, NotFull, OnlyPuts};
 ghost use Rattle.cache_hash.specs.Places.{CameLateToInsert, CameLateToReplace, KnowsKey};
-ghost use Rattle.cache_hash.specs.Room.{HasNodesLeft, HasRoom, IsNotFull};
-ghost use Rattle.cache_hash.specs.Sums.{AddsToKey, CountsKeys, IsCount, IsSum, times_counted};
+ghost use Rattle.cache_hash.specs.Room.{Fits, HasNodesLeft, HasRoom, IsNeverShort, IsNotFull};
+ghost use Rattle.cache_hash.specs.Sums.{AddToKey, CountsKeys, CountsMore, IsCount, IsSum, PutsMore, PutsOneMore, amount_added, times_counted};
 ghost use Rattle.cache_hash.specs.declared.answers.Insert.{Insert as InsertAnswer};
 ghost use Rattle.cache_hash.specs.declared.answers.Replace.{Replace as ReplaceAnswer};
+ghost use Rattle.cache_hash.specs.declared.answers.Update.{Update as UpdateAnswer};
 ghost use Rattle.seat_history.specs.declared.call.Call.{Call};
 ghost use Rattle.seat_history.specs.declared.key.KeyWords.{KeyWords};
 ghost use Rattle.seat_history.specs.declared.reply.Reply.{Reply};
 ghost use Rattle.step_rules.specs.Closing.{ClosedData, IsClosed};
 ghost use Rattle.step_rules.specs.SeatData.{IsOf, IsSeat, ObjectData, SeatData};
+
+use seat_history::ValWords;
 
 /// Where a share has room for all changes, no insert, replace or remove of a seat is Full, as long as each
 /// change has cost the seat no more than a node.
@@ -66,7 +69,7 @@ pub fn late_replace_stands_later()
 /// added, in whatever order the calls came: by any way to add that is commutative.
 pub fn key_sums()
     ensures { (A : Adding ℕ) (number : List ℕ → ℕ) (shown : ℕ → ℕ) (k : ℕ) (seat : SeatData) (closed : ClosedData) (sum : ℕ)
-        → IsSeat seat → IsClosed seat closed → AddUpTo A (λ x s. AddsToKey A (Shows number shown) k x s.call s.reply) closed.stands sum
+        → IsSeat seat → IsClosed seat closed → AddToKey A (Shows number shown) k closed.stands sum
         → IsSum A (Shows number shown) ((end_of closed).values k) sum }
 {}
 
@@ -75,4 +78,32 @@ pub fn key_sums()
 pub fn key_counts()
     ensures { (number : List ℕ → ℕ) (k : ℕ) (seat : SeatData) (closed : ClosedData) → IsSeat seat → IsClosed seat closed
         → All (λ s. CountsKeys number s.call) closed.stands → IsCount number ((end_of closed).values k) (times_counted k closed.stands) }
+{}
+
+/// Where a share has room for all changes, no call of a seat is Full that made no call yet.
+pub fn unused_is_never_short()
+    ensures { (shared : ObjectData) (seat : SeatData) → HasRoom shared.plan → IsUnused shared seat → IsNeverShort shared seat }
+{}
+
+/// An update by any function is never Full to such a seat, and leaves it such a one.
+pub fn update_fits<F: Fn(Option<ValWords>) -> ValWords>(f: &F)
+    ensures { (shared : ObjectData) (key : KeyWords) (answer : UpdateAnswer) (before after : SeatData) → IsNeverShort shared before → IsReady shared after
+        → IsUpdated key (λ there val. F.post f.now there val) answer before after → Fits shared answer before after }
+{}
+
+/// An update by a function that gives one more counts its key, where it is Done.
+pub fn update_counts<F: Fn(Option<ValWords>) -> ValWords>(f: &F)
+    ensures { (number : List ℕ → ℕ) (key : KeyWords) (answer : UpdateAnswer) (before after : SeatData)
+        → ((there : Option (List ℕ)) (val : List ℕ) → F.post f.now there val → PutsOneMore number there val)
+        → IsUpdated key (λ there val. F.post f.now there val) answer before after → CountsMore number key answer before after }
+{}
+
+/// An update by a function that gives an amount more, which may hang on what is there, adds that amount to
+/// its key, where it is Done: by any way to add.
+pub fn update_adds<F: Fn(Option<ValWords>) -> ValWords>(f: &F)
+    ensures { (A : Adding ℕ) (number : List ℕ → ℕ) (shown : ℕ → ℕ) (amount : Option (List ℕ) → ℕ) (k : ℕ) (key : KeyWords) (answer : UpdateAnswer)
+        (before after : SeatData) (sum : ℕ)
+        → ((there : Option (List ℕ)) (val : List ℕ) → F.post f.now there val → PutsMore A (Shows number shown) amount there val)
+        → IsUpdated key (λ there val. F.post f.now there val) answer before after → AddToKey A (Shows number shown) k before.view.stands sum
+        → AddToKey A (Shows number shown) k after.view.stands (A.add sum (amount_added A amount key answer k)) }
 {}
