@@ -1,44 +1,43 @@
--- What one visitor counted, and what several did that were joined.
-use Rattle.std.proofs.Common.{◌≡◌, ◌∙◌, ℕ, ◌+◌, ◌*◌, ◌<◌, ◌≤◌, Bool, true, false, List, [], ◌∷◌, All, cond, length, refl, sym, ap, subst, arith, take, get_or, slice_index_or}
+-- What one visitor counted, and what all did whose seats were joined.
+use Rattle.std.proofs.Common.{◌≡◌, ◌∙◌, ℕ, ◌+◌, ◌*◌, List, [], ◌∷◌, ◌++◌, All, Option, cond, length, length-append, sym, ap, subst, arith, slice_index_or, true}
 use Rattle.std.specs.List.{remove}
 use Rattle.std.proofs.lemmas.List.Elements.{All-append, All-head, All-nil, All-tail}
-use Rattle.std.proofs.lemmas.List.Sums.{count_by_more_no, count_by_more_yes}
-use Rattle.big_atomic.proofs.Counting.{count_append}
-use Rattle.big_atomic.specs.Seats.{AreLed, IsQuietOf, IsUnused, Stays, all_stands}
+use Rattle.big_atomic.proofs.Counting.{count_append, count_push}
+use Rattle.big_atomic.proofs.Sharing.{ready_quiet}
+use Rattle.big_atomic.specs.Seats.{AreLed, IsQuietOf, IsUnused, all_stands}
 use Rattle.big_atomic.specs.Stands.{by_call}
-use Rattle.cache_hash.proofs.Room.{unused_has_nodes}
-use Rattle.cache_hash.specs.Room.{HasRoom}
-use Rattle.cache_hash.specs.Sums.{CountsKeys, tells_key, times_counted}
+use Rattle.cache_hash.proofs.Room.{unused_is_never_short}
+use Rattle.cache_hash.specs.Room.{Fits, HasRoom, IsNeverShort}
+use Rattle.cache_hash.specs.Sums.{CountsKeys, CountsMore, OnlyCount, tells_key, times_counted}
+use Rattle.cache_hash.specs.declared.answers.Update.TheVariants.{Done}
 use Rattle.seat_history.specs.declared.key.KeyWords.{KeyWords}
 use Rattle.step_rules.specs.SeatData.{ObjectData, SeatData}
 use Rattle.step_rules.specs.declared.view.Stand.{Stand}
-use Rattle.visit_counter.specs.Visits.{HasVisited, OnlyCount, Works, is_page, times_listed, visits}
+use Rattle.visit_counter.specs.Visits.{HasVisited, is_page, times_listed, visits}
+
+quiet_of : (shared : ObjectData) (seat : SeatData) → IsNeverShort shared seat → IsQuietOf shared seat
+quiet_of shared seat is = record { ours = is.ready.ours; quiet = ready_quiet shared seat is.ready is.none_held }
 
 -- a visitor before its first visit
-pub unused_works : (shared : ObjectData) (seat : SeatData) → IsUnused shared seat → 0 < shared.plan.buckets → HasRoom shared.plan
-    → Works shared seat × Stays seat seat × (shared.plan.changes ≤ seat.view.changes + 0) × ((k : ℕ) → times_counted k seat.view.stands ≡ 0)
-unused_works shared seat u some room =
-    let changes = u.changes in (
-      record {
-        ready = u.ready;
-        some = some;
-        room = room;
-        nodes = unused_has_nodes shared seat u;
-        none_held = u.none_held;
-        ours = subst OnlyCount (sym u.stands) (All-nil (λ (s : Stand). CountsKeys visits s.call));
-      },
-      record { numbers = refl; first = refl },
-      omega (arith, changes),
-      λ k. ap (times_counted k) u.stands,
-    )
+pub none_visited : (shared : ObjectData) (seat : SeatData) → HasRoom shared.plan → IsUnused shared seat → HasVisited shared [] seat
+none_visited shared seat room u = let is = unused_is_never_short shared seat room u in let changes = u.changes in record {
+  never_short = is;
+  quiet = quiet_of shared seat is;
+  only = subst (OnlyCount visits) (sym u.stands) (All-nil (λ (s : Stand). CountsKeys visits s.call));
+  count = λ k. ap (times_counted k) u.stands;
+  left = omega (arith, changes);
+}
 
 -- one page more
-pub page_more : (pages : List KeyWords) (k i : ℕ) (d : KeyWords) → i < length pages → times_listed k (take (i + 1) pages) ≡ times_listed k (take i pages) + cond (is_page k (get_or pages i d)) 1 0
-page_more pages k i d l = by_test (is_page k (get_or pages i d)) refl
-  where
-    by_test : (b : Bool) → is_page k (get_or pages i d) ≡ b → times_listed k (take (i + 1) pages) ≡ times_listed k (take i pages) + cond b 1 0
-    by_test true e = count_by_more_yes (is_page k) pages i d l e
-    by_test false e = count_by_more_no (is_page k) pages i d l e ∙ omega arith
+pub visited_more : {shared : ObjectData} {there : Option (List ℕ)} {before after : SeatData} {pages : List KeyWords} (page : KeyWords) → Fits shared (Done there) before after
+    → CountsMore visits page (Done there) before after → HasVisited shared pages before → HasVisited shared (pages ++ page ∷ []) after
+visited_more {shared} {after = after} {pages = pages} page fits more was = record {
+  never_short = fits.never_short;
+  quiet = quiet_of shared after fits.never_short;
+  only = more.only was.only;
+  count = λ k. more.count k ∙ (ap (λ n. n + cond (is_page k page) 1 0) (was.count k) ∙ sym (count_push (is_page k) pages page));
+  left = omega (arith, fits.spends, was.left, length-append pages (page ∷ []));
+}
 
 -- the first of some seats, and the rest
 pub split_first : (seats rest : List SeatData) (first : SeatData) → AreLed seats → first ≡ slice_index_or seats 0 first → rest ≡ remove seats 0
@@ -46,18 +45,11 @@ pub split_first : (seats rest : List SeatData) (first : SeatData) → AreLed sea
 split_first [] rest first led is left = absurd led
 split_first (s ∷ later) rest first led is left = (λ i. sym is i ∷ sym left i, ap (λ (x : SeatData). x.first) is ∙ led)
 
-pub some_seats : (seats : List SeatData) → AreLed seats → 0 < length seats
-some_seats [] led = absurd led
-some_seats (s ∷ later) led = omega arith
-
 module _ (shared : ObjectData) (pages : List KeyWords) where
-  pub all_quiet : (seats : List SeatData) → All (HasVisited shared pages) seats → All (IsQuietOf shared) seats
-  all_quiet seats all i d l = (all i d l).quiet
-
-  pub all_kept : (seats : List SeatData) → All (HasVisited shared pages) seats → OnlyCount (all_stands seats)
-  all_kept [] all = All-nil (λ (s : Stand). CountsKeys visits s.call)
-  all_kept (s ∷ later) all = All-append (λ (s : Stand). CountsKeys visits s.call) s.view.stands (all_stands later) (All-head (HasVisited shared pages) s later all).kept
-      (all_kept later (All-tail (HasVisited shared pages) s later all))
+  pub all_only : (seats : List SeatData) → All (HasVisited shared pages) seats → OnlyCount visits (all_stands seats)
+  all_only [] all = All-nil (λ (s : Stand). CountsKeys visits s.call)
+  all_only (s ∷ later) all = All-append (λ (s : Stand). CountsKeys visits s.call) s.view.stands (all_stands later) (All-head (HasVisited shared pages) s later all).only
+      (all_only later (All-tail (HasVisited shared pages) s later all))
 
   -- each seat counted all pages once
   pub all_counted : (k : ℕ) (seats : List SeatData) → All (HasVisited shared pages) seats → times_counted k (all_stands seats) ≡ length seats * times_listed k pages

@@ -5,15 +5,15 @@ mod session;
 mod visits;
 
 use cache_hash::KeyWords;
-use session::{Asked, Outcome, run};
+use session::{Asked, run};
 use std::{env, io};
 
 const USAGE: &str = "visit_counter VISITORS BUCKETS PAGE..";
 
 // Two numbers, and then the pages.
-fn read_words(rt: &HostRuntime, words: &[String]) -> io::Result<Option<Asked>> {
+fn read_words(rt: &HostRuntime) -> io::Result<Option<Asked>> {
     let mut numbers = Vec::new(rt.alloc());
-    for word in words {
+    for word in env::args(rt)?.skip(1) {
         let Ok(number) = word.parse::<u64>() else {
             return Ok(None);
         };
@@ -30,22 +30,14 @@ fn read_words(rt: &HostRuntime, words: &[String]) -> io::Result<Option<Asked>> {
 }
 
 fn main(rt: HostRuntime) -> io::Result<()> {
-    let mut words = Vec::new(rt.alloc());
-    for word in env::args(&rt)?.skip(1) {
-        words.push(word)?;
-    }
-    let Some(asked) = read_words(&rt, &words)? else {
+    let Some(asked) = read_words(&rt)? else {
         return println!(rt; "{USAGE}");
     };
-    match run(&rt, rt.alloc(), &asked)? {
-        Outcome::NoRoom => println!(rt; "no room for the table"),
-        Outcome::Totals(pairs) => {
-            for (key, val) in pairs.as_slice() {
-                let page = key.k1;
-                let visits = val[0];
-                println!(rt; "{page} {visits}")?;
-            }
-            Ok(())
-        }
+    let Some(totals) = run(&rt, rt.alloc(), &asked)? else {
+        return println!(rt; "no room for the table");
+    };
+    for (page, val) in totals.as_slice() {
+        println!(rt; "{} {}", page.k1, val[0])?;
     }
+    Ok(())
 }

@@ -4,7 +4,6 @@ ghost use Rattle.big_atomic.specs.Seats.{AreBack, AreLed, IsUnused, Stays, all_n
 ghost use Rattle.cache_hash.specs.Room.{HasRoom};
 ghost use Rattle.step_rules.specs.Layout.{IsPlan};
 ghost use Rattle.step_rules.specs.Views.{count_up};
-ghost use Rattle.visit_counter.specs.Outcomes.{IsOutcome};
 ghost use Rattle.visit_counter.specs.Visits.{AreTotals, HasVisited};
 
 use crate::visits::visit_all;
@@ -25,15 +24,6 @@ pub(crate) struct Asked {
     ghost left: { length pages.items ≤ plan.changes },
 }
 
-/// What the count came to.
-#[derive(Drop)]
-pub(crate) enum Outcome {
-    /// The pages that were visited, by rising key, with their visits.
-    Totals(PairList),
-    /// Memory has no room for the table, or it would have too many nodes.
-    NoRoom,
-}
-
 impl Asked {
     /// None where a number is out of its range, or there are too many pages. A visitor has a change for
     /// each page, and nodes for these and for the longest chain that there can be.
@@ -41,12 +31,8 @@ impl Asked {
         ensures { IfSome result (λ asked. (asked.pages ≡ pages) × (asked.plan.seats ≡ visitors)) }
     {
         let changes = pages.len() as u64;
-        if visitors == 0
-            || visitors > 64
-            || buckets == 0
-            || buckets > 1 << 20
-            || changes > 1 << 20
-        {
+        let most = 1 << 20;
+        if visitors == 0 || visitors > 64 || buckets == 0 || buckets > most || changes > most {
             return None;
         }
         let share = changes + 4 * visitors + visitors * changes + 2;
@@ -65,46 +51,28 @@ impl Asked {
     }
 }
 
-/// Counts all visits: where there are totals, each page has a visit of each visitor for each time that
-/// it is in the list, whatever order the threads' steps came in.
+/// Counts all visits, and lists the pages with their visits by rising key: each page has a visit of each
+/// visitor for each time that it is asked for, whatever order the threads' steps came in. None where
+/// memory has no room for the table or the list, or the table would have too many nodes.
 pub(crate) fn run<R: Threads + Sync>(
     rt: &R,
     alloc: Global,
     asked: &Asked,
-) -> Result<Outcome, AllocError>
-    ensures { IfOk result (λ outcome. IsOutcome asked.now.pages.items asked.now.plan.seats outcome) }
+) -> Result<Option<PairList>, AllocError>
+    ensures { IfOk result (λ told. IfSome told (λ pairs. AreTotals asked.now.pages.items asked.now.plan.seats pairs)) }
 {
     let Ok((shared, seat)) = build(alloc, &asked.plan) else {
-        return Ok(Outcome::NoRoom);
+        return Ok(None);
     };
     let Ok(seats) = split_all(alloc, &shared, seat) else {
-        return Ok(Outcome::NoRoom);
+        return Ok(None);
     };
-    let seats = take_all(rt, &shared, seats, &asked.pages)?;
-    match totals(alloc, &asked.pages, shared, seats) {
-        Some(pairs) => Ok(Outcome::Totals(pairs)),
-        None => Ok(Outcome::NoRoom),
-    }
-}
-
-// Joins all seats, closes the table, and lists its pairs; None where memory has no room for them.
-fn totals(alloc: Global, _pages: &[KeyWords], shared: Shared, seats: Vec<Seat>) -> Option<PairList>
-    requires visited { All (HasVisited shared _pages.now) seats.items }
-    requires led { AreLed seats.items }
-    requires whole { all_numbers seats.items ≡ count_up 0 shared.plan.seats }
-    requires each { length seats.items ≡ shared.plan.seats }
-    requires few { (shared.plan.seats ≤ 64) × (length _pages.now ≤ 2 ^ 32) }
-    ensures { IfSome result (λ pairs. AreTotals _pages.now shared.plan.seats pairs) }
-{
-    let mut rest = seats;
-    let mut first = rest.remove(0);
-    join_all(&shared, &mut first, rest);
-    let closed = shared.close(first);
-    closed.pairs(alloc).ok()
+    let seats = visit_in_threads(rt, &shared, seats, &asked.pages)?;
+    Ok(totals(alloc, &asked.pages, shared, seats))
 }
 
 // Has each visitor go over the pages in a thread of its own.
-fn take_all<R: Threads + Sync>(
+fn visit_in_threads<R: Threads + Sync>(
     rt: &R,
     shared: &Shared,
     seats: Vec<Seat>,
@@ -127,4 +95,20 @@ fn take_all<R: Threads + Sync>(
         ensures stays { Stays seat result }
     { visit_all(shared, seat, pages) };
     thread::map_vec(rt, seats, &job)
+}
+
+// Joins all seats, closes the table, and lists its pairs; None where memory has no room for them.
+fn totals(alloc: Global, _pages: &[KeyWords], shared: Shared, seats: Vec<Seat>) -> Option<PairList>
+    requires visited { All (HasVisited shared _pages.now) seats.items }
+    requires led { AreLed seats.items }
+    requires whole { all_numbers seats.items ≡ count_up 0 shared.plan.seats }
+    requires each { length seats.items ≡ shared.plan.seats }
+    requires few { (shared.plan.seats ≤ 64) × (length _pages.now ≤ 2 ^ 32) }
+    ensures { IfSome result (λ pairs. AreTotals _pages.now shared.plan.seats pairs) }
+{
+    let mut rest = seats;
+    let mut first = rest.remove(0);
+    join_all(&shared, &mut first, rest);
+    let closed = shared.close(first);
+    closed.pairs(alloc).ok()
 }

@@ -1,8 +1,20 @@
-use Rattle.visit_counter.proofs.Calls.{called_then}
+use Rattle.std.proofs.Common.{refl, rules}
+use Rattle.cache_hash.proofs.Room.{update_fits}
+use Rattle.cache_hash.proofs.UpdateSums.{update_counts}
+use Rattle.cache_hash.specs.declared.answers.Update.TheVariants.{Done, Full}
+use Rattle.visit_counter.proofs.Seats.{visited_more}
+use Rattle.visit_counter.specs.Visits.{visits}
 use Rattle.visit_counter.proofs.visits.visit.Goals as goal
 
-pub returns-in-Counted : goal.returns-in-Counted
-returns-in-Counted c = called_then c.tries.invariant.0 c.in-Counted.ensures.called
+pub unreachable-requires : goal.unreachable-requires
+unreachable-requires c =
+    let e = c.in-Full.ensures in
+    let answer = Full c.in-Full.need c.in-Full.free in
+    (update_fits c.args.shared.now c.args.page answer c.args.seat.now c.update.new.seat c.requires.fits e.ready e.updated).not_full c.in-Full.need c.in-Full.free refl
 
-pub tries-preserved : goal.tries-preserved
-tries-preserved c = (called_then c.tries.invariant.0 c.in-Seen.ensures.called, c.in-Seen.ensures.late.0)
+pub returns-clause-visited : goal.returns-clause-visited
+returns-clause-visited c pages =
+    let e = c.in-Done.ensures in
+    let answer = Done c.in-Done.there in
+    visited_more c.args.page (update_fits c.args.shared.now c.args.page answer c.args.seat.now c.update.new.seat c.requires.fits e.ready e.updated)
+    (update_counts visits c.args.page answer c.args.seat.now c.update.new.seat (λ there val puts. search rules) e.updated)
