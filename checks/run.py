@@ -5,8 +5,9 @@ usage: checks/run.py [PROGRAM [PART..]]
 
 What a run must write comes from a fold, a generator and a plain object written here, apart from the program.
 Without PROGRAM it takes crates/flow_tally/out/flow_tally, which it has `rt run` build where it is missing, and
-which may not be older than its sources. It needs Python's own library alone, tells what it leaves out, and ends
-with status 1 where a check fails. PART is a name of PARTS; all are run where none is given.
+which may not be older than its sources. The part `visits` takes crates/visit_counter/out/visit_counter so, always.
+It needs Python's own library alone, tells what it leaves out, and ends with status 1 where a check fails. PART is a
+name of PARTS; all are run where none is given.
 """
 import os
 import random
@@ -22,9 +23,11 @@ import limits
 import malformed
 import recipes
 import refused_memory
+import regular
 import scripts
 import stress
 import trials
+import visits
 import wrong_orders
 from limits import MOST_BYTES
 from running import TOP, USAGE, Checks, built_program, little_memory
@@ -114,10 +117,12 @@ PARTS = {
     "drives": drives,
     "trials": trials.trials,
     "stress": stress.stress,
+    "regular_keys": regular.regular_keys,
     "limits": limits.limits,
     "devices": devices.devices,
     "refused_memory": refused_memory.refused_memory,
     "malformed": malformed.malformed,
+    "visits": visits.visits,
     "recipes": lambda checks: recipes.recipes(checks, TOP),
 }
 

@@ -13,8 +13,12 @@ USAGE = (
 )
 
 
+# A program of a crate, and words with which `rt run` ends at once.
+PROGRAMS = {"flow_tally": ["tally", "data/one_record.nf5"], "visit_counter": ["4", "8", "7"]}
+
+
 def newest_source() -> float:
-    """When a source of the program was changed last, in seconds since 1970."""
+    """When a source of the programs was changed last, in seconds since 1970."""
     newest = os.path.getmtime(os.path.join(TOP, "crates.txt"))
     for crate in os.scandir(os.path.join(TOP, "crates")):
         for kind in ("src", "specs", "proofs"):
@@ -23,14 +27,14 @@ def newest_source() -> float:
     return newest
 
 
-def built_program() -> str:
+def built_program(name: str = "flow_tally") -> str:
     """The program that `rt ci` or `rt run` built from the sources as they are."""
-    folder = os.path.join(TOP, "crates", "flow_tally")
-    program = os.path.join(folder, "out", "flow_tally")
+    folder, words = os.path.join(TOP, "crates", name), ["rt", "run", "--", *PROGRAMS[name]]
+    program = os.path.join(folder, "out", name)
     if not os.path.isfile(program):
-        subprocess.run(["rt", "run", "--", "tally", "data/one_record.nf5"], cwd=folder, stdout=subprocess.DEVNULL, check=True)
+        subprocess.run(words, cwd=folder, stdout=subprocess.DEVNULL, check=True)
     elif os.path.getmtime(program) < newest_source():
-        sys.exit(f"checks: {program} is older than its sources; build it: (cd crates/flow_tally && rt run -- tally data/one_record.nf5)")
+        sys.exit(f"checks: {program} is older than its sources; build it: (cd crates/{name} && {' '.join(words)})")
     return program
 
 
