@@ -1,15 +1,16 @@
 -- A key that is added to by inserts and replaces has the sum of what they added; counting is adding ones.
-use Rattle.std.proofs.Common.{◌≡◌, ◌≢◌, ◌∙◌, ℕ, ◌+◌, ◌%◌, ◌^◌, ◌<◌, Bool, true, false, List, [], ◌∷◌, All, Option, Some, None, cond, refl, sym, ap, subst, arith, ⊎_elim, eqb, eq-eqb, ne_eqb}
+use Rattle.std.proofs.Common.{◌≡◌, ◌≢◌, ◌∙◌, ℕ, ◌+◌, ◌*◌, ◌%◌, ◌^◌, ◌<◌, Bool, true, false, List, [], ◌∷◌, All, Option, Some, None, cond, length, refl, sym, ap, subst, arith, ⊎_elim, eqb, eq-eqb, ne_eqb}
 use Rattle.std.proofs.lemmas.Bool.{cases_eq, eqb-true}
-use Rattle.std.proofs.lemmas.List.Elements.{All-head, All-tail}
+use Rattle.std.proofs.lemmas.List.Elements.{All-append, All-head, All-nil, All-tail}
 use Rattle.std.specs.Cmp.Lexicographic.{same_text}
 use Rattle.std.specs.Option.{option_map_or}
-use Rattle.big_atomic.proofs.Counting.{count_cons}
+use Rattle.big_atomic.proofs.Counting.{count_append, count_cons}
 use Rattle.big_atomic.proofs.Sums.{EachAdds, line_adds}
 use Rattle.big_atomic.specs.Registers.{end_of}
+use Rattle.big_atomic.specs.Seats.{all_stands}
 use Rattle.big_atomic.specs.Stands.{by_call}
 use Rattle.big_atomic.specs.Sums.{AddUpTo, Adding}
-use Rattle.cache_hash.specs.Sums.{AddsToKey, CountsKeys, IsCount, IsSum, tells_key, times_counted}
+use Rattle.cache_hash.specs.Sums.{AddsToKey, CountsKeys, IsCount, IsSum, OnlyCount, tells_key, times_counted}
 use Rattle.seat_history.specs.Contents.{Contents, set_at}
 use Rattle.seat_history.specs.Key.{key_number}
 use Rattle.seat_history.specs.Object.{Object, object_after}
@@ -152,3 +153,17 @@ module _ (number : List ℕ → ℕ) (k : ℕ) where
       → IsCount number ((end_of closed).values k) (times_counted k closed.stands)
   key_counts seat closed law is all = is_count ((end_of closed).values k) (times_counted k closed.stands)
       (key_sums counts (says_count number) k seat closed (times_counted k closed.stands) law is (counted closed.stands all))
+
+-- the stands of seats each of which has only counted
+pub seats_only : (number : List ℕ → ℕ) (seats : List SeatData) → All (λ (s : SeatData). OnlyCount number s.view.stands) seats → OnlyCount number (all_stands seats)
+seats_only number [] all = All-nil (λ (s : Stand). CountsKeys number s.call)
+seats_only number (one ∷ later) all = All-append (λ (s : Stand). CountsKeys number s.call) one.view.stands (all_stands later)
+    (All-head (λ (s : SeatData). OnlyCount number s.view.stands) one later all) (seats_only number later (All-tail (λ (s : SeatData). OnlyCount number s.view.stands) one later all))
+
+-- and of seats each of which has counted the key n times
+pub seats_counted : (k n : ℕ) (seats : List SeatData) → All (λ (s : SeatData). times_counted k s.view.stands ≡ n) seats → times_counted k (all_stands seats) ≡ length seats * n
+seats_counted k n [] all = omega arith
+seats_counted k n (one ∷ later) all =
+    let here : times_counted k one.view.stands ≡ n = All-head (λ (s : SeatData). times_counted k s.view.stands ≡ n) one later all in
+    let rest : times_counted k (all_stands later) ≡ length later * n = seats_counted k n later (All-tail (λ (s : SeatData). times_counted k s.view.stands ≡ n) one later all) in
+    count_append (by_call (tells_key k)) one.view.stands (all_stands later) ∙ omega (arith, here, rest)

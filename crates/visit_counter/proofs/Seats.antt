@@ -1,19 +1,24 @@
--- What one visitor counted, and what all did whose seats were joined.
-use Rattle.std.proofs.Common.{◌≡◌, ◌∙◌, ℕ, ◌+◌, ◌*◌, List, [], ◌∷◌, ◌++◌, All, Option, cond, length, length-append, sym, ap, subst, arith, slice_index_or, true}
+-- What one visitor counted, and what the closed table has of all.
+use Rattle.std.proofs.Common.{◌≡◌, ◌∙◌, ℕ, ◌+◌, ◌*◌, ◌^◌, ◌<◌, ◌≤◌, true, List, [], ◌∷◌, ◌++◌, All, Option, Some, None, cond, length, length-append, sym, ap, subst, arith, slice_index_or}
 use Rattle.std.specs.List.{remove}
-use Rattle.std.proofs.lemmas.List.Elements.{All-append, All-head, All-nil, All-tail}
-use Rattle.big_atomic.proofs.Counting.{count_append, count_push}
+use Rattle.std.proofs.lemmas.List.Elements.{All-nil}
+use Rattle.big_atomic.proofs.Counting.{count_push}
 use Rattle.big_atomic.proofs.Sharing.{ready_quiet}
+use Rattle.big_atomic.specs.Registers.{end_of}
 use Rattle.big_atomic.specs.Seats.{AreLed, IsQuietOf, IsUnused, all_stands}
-use Rattle.big_atomic.specs.Stands.{by_call}
+use Rattle.cache_hash.proofs.KeySums.{key_counts, seats_counted, seats_only}
 use Rattle.cache_hash.proofs.Room.{unused_is_never_short}
 use Rattle.cache_hash.specs.Room.{Fits, HasRoom, IsNeverShort}
-use Rattle.cache_hash.specs.Sums.{CountsKeys, CountsMore, OnlyCount, tells_key, times_counted}
+use Rattle.cache_hash.specs.Sums.{CountsKeys, CountsMore, IsCount, OnlyCount, times_counted}
 use Rattle.cache_hash.specs.declared.answers.Update.TheVariants.{Done}
+use Rattle.seat_history.specs.Pairs.{ArePairsOf, Pairs}
 use Rattle.seat_history.specs.declared.key.KeyWords.{KeyWords}
-use Rattle.step_rules.specs.SeatData.{ObjectData, SeatData}
+use Rattle.std.proofs.Math.Nat.{mul-le-mul_right}
+use Rattle.std.proofs.lemmas.List.Sums.{count_by-le-length}
+use Rattle.step_rules.specs.Closing.{ClosedData, IsClosed}
+use Rattle.step_rules.specs.SeatData.{IsSeat, ObjectData, SeatData}
 use Rattle.step_rules.specs.declared.view.Stand.{Stand}
-use Rattle.visit_counter.specs.Visits.{HasVisited, is_page, times_listed, visits}
+use Rattle.visit_counter.specs.Visits.{AreTotals, HasVisited, IsTotal, is_page, times_listed, visits}
 
 quiet_of : (shared : ObjectData) (seat : SeatData) → IsNeverShort shared seat → IsQuietOf shared seat
 quiet_of shared seat is = record { ours = is.ready.ours; quiet = ready_quiet shared seat is.ready is.none_held }
@@ -45,17 +50,19 @@ pub split_first : (seats rest : List SeatData) (first : SeatData) → AreLed sea
 split_first [] rest first led is left = absurd led
 split_first (s ∷ later) rest first led is left = (λ i. sym is i ∷ sym left i, ap (λ (x : SeatData). x.first) is ∙ led)
 
-module _ (shared : ObjectData) (pages : List KeyWords) where
-  pub all_only : (seats : List SeatData) → All (HasVisited shared pages) seats → OnlyCount visits (all_stands seats)
-  all_only [] all = All-nil (λ (s : Stand). CountsKeys visits s.call)
-  all_only (s ∷ later) all = All-append (λ (s : Stand). CountsKeys visits s.call) s.view.stands (all_stands later) (All-head (HasVisited shared pages) s later all).only
-      (all_only later (All-tail (HasVisited shared pages) s later all))
+small : (there : Option (List ℕ)) (n : ℕ) → n < 2 ^ 64 → IsCount visits there n → IsTotal there n
+small None n l is = is
+small (Some val) n l is = (is.0, omega (arith, is.1))
 
-  -- each seat counted all pages once
-  pub all_counted : (k : ℕ) (seats : List SeatData) → All (HasVisited shared pages) seats → times_counted k (all_stands seats) ≡ length seats * times_listed k pages
-  all_counted k [] all = omega arith
-  all_counted k (s ∷ later) all =
-      let n : ℕ = times_listed k pages in
-      let one : times_counted k s.view.stands ≡ n = (All-head (HasVisited shared pages) s later all).count k in
-      let rest : times_counted k (all_stands later) ≡ length later * n = all_counted k later (All-tail (HasVisited shared pages) s later all) in
-      count_append (by_call (tells_key k)) s.view.stands (all_stands later) ∙ omega (arith, one, rest)
+pub totals : (shared : ObjectData) (pages : List KeyWords) (seats : List SeatData) (seat : SeatData) (closed : ClosedData) (pairs : Pairs) → All (HasVisited shared pages) seats
+    → seat.view.stands ≡ all_stands seats → length seats ≡ shared.plan.seats → shared.plan.seats ≤ 64 → length pages ≤ 2 ^ 32
+    → IsSeat seat → IsClosed seat closed → ArePairsOf (end_of closed).values pairs → AreTotals pages shared.plan.seats pairs
+totals shared pages seats seat closed pairs all stands each most few law is are k =
+    let n : ℕ = times_listed k pages in
+    let whole = is.stands ∙ stands in
+    let count : times_counted k closed.stands ≡ shared.plan.seats * n = ap (times_counted k) whole ∙ (seats_counted k n seats (λ i d l. (all i d l).count k) ∙ ap (λ m. m * n) each) in
+    let counted = key_counts visits k seat closed law is (subst (OnlyCount visits) (sym whole) (seats_only visits seats (λ i d l. (all i d l).only))) in
+    let short : n ≤ 2 ^ 32 = let l = count_by-le-length (is_page k) pages in omega arith in
+    let upper : shared.plan.seats * n ≤ 64 * n = mul-le-mul_right n most in
+    subst (λ (o : Option (List ℕ)). IsTotal o (shared.plan.seats * n)) (sym (are.whole k))
+    (small ((end_of closed).values k) (shared.plan.seats * n) (omega (arith, short, upper)) (subst (IsCount visits ((end_of closed).values k)) count counted))

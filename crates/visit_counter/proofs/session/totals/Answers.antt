@@ -2,8 +2,7 @@ use Rattle.std.proofs.Common.{◌∙◌, IfSome, IfOk, Ok, Err, Result, ap, leng
 use Rattle.std.specs.Result.{result_ok}
 use Rattle.big_atomic.specs.Seats.{all_numbers, all_stands}
 use Rattle.step_rules.proofs.Numbers.Sets.{length-count_up}
-use Rattle.visit_counter.proofs.Seats.{split_first}
-use Rattle.visit_counter.proofs.Totals.{totals}
+use Rattle.visit_counter.proofs.Seats.{split_first, totals}
 use Rattle.visit_counter.specs.Visits.{AreTotals}
 use Rattle.visit_counter.proofs.session.totals.Goals as goal
 
