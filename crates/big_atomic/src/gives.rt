@@ -16,6 +16,7 @@ use step_rules::{Seat, Shared};
 /// new one it exchanges nothing. The call is answered where its register has the record or no node is
 /// free; `done` is the reply where it has it. Where another caller's change came before, the node with
 /// the new record stays held, so that a further turn need not fill one.
+#[inline(always)]
 pub(crate) fn give(
     shared: &Shared,
     seat: &mut Seat,

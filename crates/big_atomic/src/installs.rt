@@ -20,6 +20,7 @@ use step_rules::{Seat, Shared};
 /// then the call is the entry at its stand's place, no node is held, and the cell is refreshed by that
 /// version. Moved exactly where the exchange found another node: the history has no entry of this call
 /// then, and every node that was held is free again. The Own claim is ended; Back and Walk stay.
+#[inline(always)]
 pub fn install(
     shared: &Shared,
     seat: &mut Seat,
@@ -48,6 +49,7 @@ pub fn install(
 }
 
 /// As `install`, but where another node was found the held ones stay held, with their words.
+#[inline(always)]
 pub(crate) fn try_install(
     shared: &Shared,
     seat: &mut Seat,

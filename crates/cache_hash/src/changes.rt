@@ -43,6 +43,7 @@ pub(crate) fn change(shared: &Shared, seat: &mut Seat, key: KeyWords, change: Ch
 }
 
 // One turn, with the bucket's version found and its node claimed: looks for the key, and goes on as its value says.
+#[inline(always)]
 fn try_change(shared: &Shared, seat: &mut Seat, asked: Asked, start: Start, scanned: bool) -> Turn
     requires past { (b : Begun shared.now asked.key) × CameBy (Only asked.change) b × MayAsk asked.key asked.change b.before × IsAtTurn b asked.cell start scanned seat.old }
     ensures turned { (b : Begun shared.now asked.key) → CameBy (Only asked.change) b → MayAsk asked.key asked.change b.before → IsAtTurn b asked.cell start scanned seat.old
@@ -62,6 +63,7 @@ fn try_change(shared: &Shared, seat: &mut Seat, asked: Asked, start: Start, scan
 }
 
 // Ends the call where the object is to stay as it is, and changes it else.
+#[inline(always)]
 pub(crate) fn go_on(
     shared: &Shared,
     seat: &mut Seat,
@@ -85,6 +87,7 @@ pub(crate) fn go_on(
 }
 
 // Makes the change where so many nodes are free. Scans first where fewer are, at most once in a call.
+#[inline(always)]
 fn make_change(
     shared: &Shared,
     seat: &mut Seat,
@@ -110,6 +113,7 @@ fn make_change(
 
 // Scans where fewer nodes are free than are needed and the call hasn't scanned yet, and answers whether
 // it has then.
+#[inline(always)]
 fn make_room(shared: &Shared, seat: &mut Seat, need: u32, scanned: bool) -> bool
     requires ours { IsOf shared.now seat.old }
     requires law { IsSeat seat.old }
@@ -125,6 +129,7 @@ fn make_room(shared: &Shared, seat: &mut Seat, need: u32, scanned: bool) -> bool
 
 // Copies the front of the claimed chain with the change in it and installs it, where enough nodes are
 // free.
+#[inline(always)]
 fn install_change(
     shared: &Shared,
     seat: &mut Seat,
@@ -154,6 +159,7 @@ fn install_change(
 
 // Clears Walk and Back, and adds the stand of an end without a change, at the end of what the seat has
 // seen.
+#[inline(always)]
 fn tell(shared: &Shared, seat: &mut Seat, asked: Asked, told: Told)
     requires past { (b : Begun shared.now asked.key) × KnowsEnd b asked.cell asked.change told seat.old }
     ensures ends { (b : Begun shared.now asked.key) → KnowsEnd b asked.cell asked.change told seat.old

@@ -25,6 +25,7 @@ use step_rules::{END, Seat, Shared};
 /// place, or where that is the first the one after it. These two read each node once, in the chain's
 /// order. Moved comes only where the cell was found to name another node, which another caller's change
 /// has put there since the claim's recheck; then every node that was taken is free again.
+#[inline(always)]
 pub fn copy_front(shared: &Shared, seat: &mut Seat, cell: u32, edit: Edit) -> Front
     requires ours { IsOf shared.now seat.old }
     requires back { HasBack cell seat.old.view }

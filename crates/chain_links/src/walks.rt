@@ -16,6 +16,7 @@ use step_rules::{END, Seat, Shared};
 /// and read once the cell was found to name Back's node still. Moved comes only where it names another
 /// one, which another caller's change has put there since the claim's recheck; the link announced last
 /// stays in Walk. What is noted stays, too.
+#[inline(always)]
 pub fn walk(shared: &Shared, seat: &mut Seat, cell: u32, key: KeyWords) -> Walk
     requires ours { IsOf shared.now seat.old }
     requires back { HasBack cell seat.old.view }
