@@ -20,6 +20,7 @@ pub mod Marking
 pub mod Missing
 pub mod Pacing
 pub mod Paid
+pub mod Prelude
 pub mod Preparing
 pub mod PuttingBack
 pub mod Reading

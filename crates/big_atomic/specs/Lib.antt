@@ -4,6 +4,7 @@ pub mod Giving
 pub mod Installing
 pub mod Lines
 pub mod Marks
+pub mod Prelude
 pub mod Reads
 pub mod Ready
 pub mod Registers

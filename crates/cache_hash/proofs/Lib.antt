@@ -12,6 +12,7 @@ mod Updating
 mod Walking
 pub mod KeySums
 pub mod LaterPlaces
+pub mod Prelude
 pub mod Room
 pub mod UpdateSums
 pub mod FewKeys
