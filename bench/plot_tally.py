@@ -20,7 +20,7 @@ WORKERS = (1, 2, 4)
 # name, colour, how tally.cpp is compiled (None: the proved program), whether it takes a number of workers
 PROGRAMS = (
     ("proved", "#1f5fa8", None, True),
-    ("C++, same table", "#c2571a", ["-DSHARED"], True),
+    ("C++, same plan", "#c2571a", ["-DSHARED", "-DAHEAD", "-DRECLAIM"], True),
     ("C++, std::map", "#777777", [], False),
     ("C++, hashed", "#aaaaaa", ["-DHASHED"], False),
 )

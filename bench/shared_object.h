@@ -2,6 +2,8 @@
 // steps are those of the proved code, one for one and in the same order.
 //   -DCLAIMED_READS   loads and finds go by a claim always, as before the inline words were read
 //   -DREFILL          a store that lost its exchange takes and fills a node anew
+//   -DAPART           the claim words of each thread stand in lines of their own, which the layout of the proved object doesn't allow
+//   -DNO_STAND        a stand loads no word, which the proved calls do
 //   -DCOUNT_STEPS     each thread counts its steps
 #pragma once
 #include "runs.h"
@@ -19,6 +21,11 @@ constexpr uint64_t LAST_VERSION = uint64_t(1) << 63; // from there on no version
 constexpr bool READS_INLINE = false;
 #else
 constexpr bool READS_INLINE = true;
+#endif
+#ifdef APART
+constexpr size_t CLAIM_STRIDE = 16; // two lines, since processors fetch them in pairs
+#else
+constexpr size_t CLAIM_STRIDE = CLAIMS;
 #endif
 #ifdef REFILL
 constexpr bool KEEPS_NODE = false;
@@ -46,7 +53,7 @@ inline void count(Step) {}
 class Object {
 public:
     Object(uint32_t threads, uint32_t cells, uint32_t share, uint64_t first_next)
-        : threads(threads), cells_start(CLAIMS * threads), nodes_start(cells_start + CELL_WIDTH * cells),
+        : threads(threads), cells_start(CLAIM_STRIDE * threads), nodes_start(cells_start + CELL_WIDTH * cells),
           words(nodes_start + NODE_WIDTH * (size_t(threads) * share + cells)) {
         for (uint32_t cell = 0; cell < cells; cell++) {
             backup(cell).store(2 * uint64_t(cell), std::memory_order_relaxed);
@@ -71,10 +78,10 @@ public:
         return exchange(backup(cell), 2 * uint64_t(node) + 1, 2 * uint64_t(node));
     }
 
-    void claim_store(uint32_t thread, size_t claim, uint64_t node) { count(Step::claim_store); words[CLAIMS * thread + claim].store(node + 1); }
+    void claim_store(uint32_t thread, size_t claim, uint64_t node) { count(Step::claim_store); words[CLAIM_STRIDE * thread + claim].store(node + 1); }
     uint64_t recheck_load(uint32_t cell) { count(Step::recheck); return backup(cell).load(); }
-    void claim_clear(uint32_t thread, size_t claim) { count(Step::claim_clear); words[CLAIMS * thread + claim].store(0); }
-    uint64_t scan_load(size_t word) { count(Step::scan_load); return words[word].load(); }
+    void claim_clear(uint32_t thread, size_t claim) { count(Step::claim_clear); words[CLAIM_STRIDE * thread + claim].store(0); }
+    uint64_t scan_load(size_t word) { count(Step::scan_load); return words[CLAIM_STRIDE * (word / CLAIMS) + word % CLAIMS].load(); }
 
     uint64_t version_load(uint32_t cell) { count(Step::version_load); return version(cell).load(); }
     uint64_t inline_load(uint32_t cell, size_t j) { count(Step::inline_load); return inline_word(cell, j).load(); }
@@ -84,7 +91,16 @@ public:
     void version_release(uint32_t cell, uint64_t seen) { count(Step::version_release); version(cell).store(seen + 2); }
 
     // The stand of a call that changes nothing: a load of the table's first word.
-    void stand() { count(Step::stand); words[0].load(); }
+    void stand() {
+        count(Step::stand);
+#ifndef NO_STAND
+        words[0].load();
+#endif
+    }
+
+    // Loads of no call, which bring words near: the node that a cell's backup names, and the next word of a node, 0 where there is no such node.
+    uint64_t peek_node(uint32_t cell) { return backup(cell).load() / 2; }
+    uint64_t peek_next(uint64_t node) { return node < (words.size() - nodes_start) / NODE_WIDTH ? node_word(node, WIDTH).load() : 0; }
 
 private:
     static uint64_t exchange(std::atomic<uint64_t> &word, uint64_t expected, uint64_t next) {
@@ -119,6 +135,12 @@ public:
     }
 
     uint64_t changes;
+    uint64_t lost_looks = 0, lost_tries = 0; // looks that found another node than the announced one, and turns of changes that another thread's change ended
+
+    // Scans where so many nodes are retired besides those that claims may name.
+    void reclaim_many(size_t most) {
+        if (retired.size() >= object.claim_words() + most) scan();
+    }
 
 protected:
     void announce(size_t claim, uint64_t node) { object.claim_store(thread, claim, node); }
@@ -151,6 +173,7 @@ protected:
         announce(BACK, word / 2);
         uint64_t found = object.recheck_load(cell);
         bool same = found / 2 == word / 2;
+        lost_looks += !same;
         word = found;
         return same;
     }

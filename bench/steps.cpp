@@ -122,6 +122,11 @@ static void check_table() {
     check("replace of the first of three", changes(1, 1, 1, false), [&] { seat.replace(c, one, two); });
     check("replace of the third of three", changes(3, 3, 3, true), [&] { seat.replace(a, one, two); });
     check("replace of another value", stays(3), [&] { seat.replace(a, one, two); });
+    auto gives = [](const Value &value) { return [=](const Value *) { return value; }; };
+    check("update of the third of three", changes(3, 3, 3, true), [&] { seat.update(a, gives(one)); });
+    check("update to the value there, of the third of three", stays(3), [&] { seat.update(a, gives(one)); });
+    check("update beside three", changes(3, 1, 2, true), [&] { seat.update(d, gives(one)); });
+    check("remove of the first of four", changes(1, 2, 1, true), [&] { seat.remove(d); });
     check("remove of the third of three", changes(3, 3, 2, true), [&] { seat.remove(a); });
     check("remove of the first of two", changes(1, 2, 1, true), [&] { seat.remove(c); });
     check("remove of the only key", changes(1, 1, 1, false), [&] { seat.remove(b); });

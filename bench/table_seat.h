@@ -55,6 +55,17 @@ public:
         });
     }
 
+    // Gives the key the value of `merged`, which takes that there, or null; one change.
+    template <class Merged> Answer update(const Key &key, const Merged &merged) {
+        return change(key, [&](Turn &turn) {
+            bool found = turn.walked.way == Way::found;
+            Value value = merged(found ? &turn.walked.value : nullptr);
+            if (found && value == turn.walked.value) return ends(Answer::done);
+            if (!make_room(turn, found ? turn.walked.place + 1 : turn.walked.place == 0 ? 1 : 2)) return ends(Answer::full);
+            return installs(turn, found ? copy_replaced(turn, value) : copy_inserted(turn, record_of(key, value, 0)));
+        });
+    }
+
     Removed remove(const Key &key) {
         Value gone{};
         Answer answer = change(key, [&](Turn &turn) {
@@ -64,6 +75,14 @@ public:
             return installs(turn, copy_removed(turn));
         });
         return {answer, gone};
+    }
+
+    // Brings near what calls on these keys load first: the buckets' backups, then a word of each node that is named, then one of each link.
+    template <size_t COUNT> void load_ahead(const std::array<Key, COUNT> &keys, size_t count) {
+        std::array<uint64_t, COUNT> nodes;
+        for (size_t i = 0; i < count; i++) nodes[i] = object.peek_node(bucket_of(keys[i]));
+        for (size_t i = 0; i < count; i++) nodes[i] = object.peek_next(nodes[i]) - 1;
+        for (size_t i = 0; i < count; i++) object.peek_next(nodes[i]);
     }
 
 private:
@@ -107,8 +126,10 @@ private:
             turn.start = claim_versioned(turn.cell);
             noted.clear();
             turn.walked = walk(turn.cell, turn.start.word, key);
-            if (turn.walked.way == Way::moved) continue;
-            if (std::optional<Answer> told = go_on(turn)) return *told;
+            if (turn.walked.way != Way::moved) {
+                if (std::optional<Answer> told = go_on(turn)) return *told;
+            }
+            lost_tries++;
         }
     }
 

@@ -2,8 +2,14 @@
 //   g++ -O2 -std=c++17 -o tally_map tally.cpp                      std::map throughout
 //   g++ -O2 -std=c++17 -DHASHED -o tally_hashed tally.cpp          std::unordered_map, sorted at the end
 //   g++ -O2 -std=c++17 -pthread -DSHARED -o tally_shared tally.cpp the shared table, by the steps and the plan of `tally`: FILE [WORKERS FLOWS BUCKETS];
-//                                                                  options: shared_object.h
+//                                                                  options: shared_object.h, and
+//   -DAHEAD       what 32 pairs need is loaded ahead, as `tally` does
+//   -DRECLAIM     a scan between two pairs once 256 nodes are retired besides those that claims may name, as `tally` does
+//   -DTWO_CALLS   a find and an insert or a replace for each pair, in place of one update
+//   -DTELL        standard error has the milliseconds of each phase, and how many looks and turns were lost
 #include <algorithm>
+#include <atomic>
+#include <chrono>
 #include <cinttypes>
 #include <cstdint>
 #include <cstdio>
@@ -39,6 +45,16 @@ struct Mix {
 };
 
 using Flow = std::pair<FlowKey, Sums>;
+
+// Tells how long it is since the last phase ended.
+static void end_phase([[maybe_unused]] const char *phase) {
+#ifdef TELL
+    static auto last = std::chrono::steady_clock::now();
+    auto now = std::chrono::steady_clock::now();
+    if (*phase) fprintf(stderr, "%s %.2f\n", phase, std::chrono::duration<double, std::milli>(now - last).count());
+    last = now;
+#endif
+}
 
 static uint64_t number(const unsigned char *p, int n) {
     uint64_t v = 0;
@@ -92,25 +108,59 @@ template <class Add> uint64_t decode(const std::vector<unsigned char> &bytes, co
 static Value words_of(const Sums &sums) { return {sums.packets, sums.octets, sums.first, sums.last, sums.flags}; }
 static Sums sums_of(const Value &words) { return {words[0], words[1], words[2], words[3], words[4]}; }
 
+constexpr size_t BATCH = 256, GROUP = 32, MOST_RETIRED = 256;
+
+static Key words_of(const FlowKey &key) { return {key.high, key.low}; }
+
+// The sums there, where there are any, with the pair's merged into them.
+static Value merged(const Value *there, const Flow &pair) {
+    if (!there) return words_of(pair.second);
+    Sums sums = sums_of(*there);
+    sums.merge(pair.second);
+    return words_of(sums);
+}
+
+#ifdef TWO_CALLS
+static bool add_pair(TableSeat &seat, const Flow &pair) {
+    Key key = words_of(pair.first);
+    for (;;) {
+        auto found = seat.find(key);
+        Answer answer = found ? seat.replace(key, *found, merged(&*found, pair)) : seat.insert(key, merged(nullptr, pair));
+        if (answer == Answer::done || answer == Answer::full) return answer == Answer::done;
+    }
+}
+#else
+static bool add_pair(TableSeat &seat, const Flow &pair) {
+    return seat.update(words_of(pair.first), [&](const Value *there) { return merged(there, pair); }) == Answer::done;
+}
+#endif
+
 // Adds the pairs from one place up to another; false where a node is wanting.
 static bool add_part(TableSeat &seat, const std::vector<Flow> &pairs, size_t from, size_t to) {
     for (size_t i = from; i < to; i++) {
-        Key key{pairs[i].first.high, pairs[i].first.low};
-        for (bool made = false; !made;) {
-            auto found = seat.find(key);
-            Answer answer;
-            if (found) {
-                Sums sums = sums_of(*found);
-                sums.merge(pairs[i].second);
-                answer = seat.replace(key, *found, words_of(sums));
-            } else {
-                answer = seat.insert(key, words_of(pairs[i].second));
-            }
-            if (answer == Answer::full) return false;
-            made = answer == Answer::done;
+#ifdef AHEAD
+        if ((i - from) % GROUP == 0) {
+            std::array<Key, GROUP> keys;
+            size_t count = std::min(GROUP, to - i);
+            for (size_t k = 0; k < count; k++) keys[k] = words_of(pairs[i + k].first);
+            seat.load_ahead(keys, count);
         }
+#endif
+#ifdef RECLAIM
+        seat.reclaim_many(MOST_RETIRED);
+#endif
+        if (!add_pair(seat, pairs[i])) return false;
     }
     return true;
+}
+
+// Draws batches of the pairs and adds them, until none is left.
+static bool add_batches(TableSeat &seat, const std::vector<Flow> &pairs, std::atomic<size_t> &drawn) {
+    for (;;) {
+        size_t from = BATCH * drawn.fetch_add(1);
+        if (from >= pairs.size()) return true;
+        if (!add_part(seat, pairs, from, std::min(from + BATCH, pairs.size()))) return false;
+    }
 }
 
 // The pairs of all buckets' chains, sorted.
@@ -137,16 +187,27 @@ static std::vector<Flow> tally(const std::vector<unsigned char> &bytes, int argc
     records = pairs.size();
     uint32_t workers = argc > 2 ? atoi(argv[2]) : 4, most = argc > 3 ? atoi(argv[3]) : 65536, buckets = argc > 4 ? atoi(argv[4]) : 65536;
     uint32_t share = 2 * most + 4 * workers + 1;
+    end_phase("decode");
     Object object(workers, buckets, share, END);
     std::vector<TableSeat> seats;
     for (uint32_t w = 0; w < workers; w++) seats.emplace_back(object, workers, buckets, share, w);
+    end_phase("build");
+    std::atomic<size_t> drawn = 0;
+    std::atomic<uint64_t> lost_looks = 0, lost_tries = 0;
     auto ran = run_threads(workers, [&](uint32_t w) {
         TableSeat seat = std::move(seats[w]);
-        uint64_t made = add_part(seat, pairs, w * pairs.size() / workers, (w + 1) * pairs.size() / workers);
+        uint64_t made = add_batches(seat, pairs, drawn);
+        lost_looks += seat.lost_looks;
+        lost_tries += seat.lost_tries;
         return Ran{made, 0};
     });
+    end_phase("workers");
+#ifdef TELL
+    fprintf(stderr, "lost_looks %" PRIu64 "\nlost_tries %" PRIu64 "\n", lost_looks.load(), lost_tries.load());
+#endif
     if (ran.first.done != workers) exit(7);
     std::vector<Flow> flows = flows_in(object, buckets);
+    end_phase("close_and_sort");
     if (flows.size() > most) exit(7);
     return flows;
 }
@@ -174,7 +235,10 @@ static std::vector<Flow> tally(const std::vector<unsigned char> &bytes, int, cha
 int main(int argc, char **argv) {
     if (argc < 2) return 2;
     uint64_t records, datagrams;
-    std::vector<Flow> sorted = tally(read_file(argv[1]), argc, argv, records, datagrams);
+    end_phase("");
+    std::vector<unsigned char> bytes = read_file(argv[1]);
+    end_phase("read");
+    std::vector<Flow> sorted = tally(bytes, argc, argv, records, datagrams);
     std::string out;
     out.reserve(sorted.size() * 160 + 256);
     char line[256];
@@ -192,4 +256,5 @@ int main(int argc, char **argv) {
     int n = snprintf(line, sizeof line, "flows %zu packets %" PRIu64 " octets %" PRIu64 " records %" PRIu64 " datagrams %" PRIu64 "\n", sorted.size(), packets, octets, records, datagrams);
     out.append(line, n);
     fwrite(out.data(), 1, out.size(), stdout);
+    end_phase("report");
 }
