@@ -25,6 +25,7 @@ def tables(before: str, folder: pathlib.Path) -> list[tuple[str, list[str]]]:
     old = f"{before}/crates/flow_tally/out/flow_tally"
     exports = ["--exports", str(folder)]
     return [
+        ("instructions", ["instructions.py", "--before", before]),
         ("before_after", ["before_after.py", before, str(TOP), "--runs", "5"]),
         ("tally", ["tally_table.py", "--before", old, "--runs", "5", *exports]),
         ("tally_large_pages", ["tally_table.py", "--before", old, "--runs", "3", "--huge", "--without-nfdump", *exports]),
