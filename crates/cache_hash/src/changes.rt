@@ -20,6 +20,7 @@ use step_rules::{Seat, Shared};
 
 /// Makes the change where the key's value says so and enough nodes are free. Each further turn has a
 /// change of another caller to the key's bucket.
+#[inline(always)]
 pub(crate) fn change(shared: &Shared, seat: &mut Seat, key: KeyWords, change: Change) -> Told
     requires ready { IsReady shared.now seat.old }
     requires some { 0 < shared.now.plan.buckets }
