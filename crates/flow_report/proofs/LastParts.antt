@@ -1,5 +1,5 @@
 -- The last line by its words and numbers.
-use Rattle.std.proofs.Common.{ℕ, ◌<◌, List, [], ◌∷◌, codes, append_assoc, arith}
+use Rattle.std.proofs.Common.{ℕ, ◌<◌, ◌≤◌, ◌^◌, List, [], ◌∷◌, codes, append_assoc, arith}
 use Rattle.flow_report.specs.declared.totals.Totals.{Totals}
 use Rattle.flow_report.specs.Ranges.{AreTotalsInRange}
 use Rattle.flow_report.specs.Text.{number_then, named, named_then, words_then, totals_text, space, line_feed}
@@ -12,19 +12,19 @@ named_parts n = (tt, (tt, n))
 abbrev pub named_fields : ℕ → List ℕ → Unit {0} × (Unit {0} × ℕ) → List ℕ
 named_fields after word = spelled_after (fixed word) (spelled_after (fixed (space ∷ [])) (number_then after))
 
-abbrev pub AreNamedParts : Unit {0} × (Unit {0} × ℕ) → Type 0
-AreNamedParts = BothIn Always (BothIn Always IsCount)
+abbrev pub AreNamedParts : ℕ → Unit {0} × (Unit {0} × ℕ) → Type 0
+AreNamedParts most = BothIn Always (BothIn Always (λ n. n ≤ most))
 
-pub named_by_parts : (after : ℕ) (word : List ℕ) → IsSpelledBy (named_then after word) IsCount named_parts (named_fields after word) AreNamedParts
+pub named_by_parts : (after most : ℕ) (word : List ℕ) → IsSpelledBy (named_then after word) (λ n. n ≤ most) named_parts (named_fields after word) (AreNamedParts most)
 unfolding named_then named spelled_after
-named_by_parts after word = record {
+named_by_parts after most word = record {
   spelled = λ n. simp append_assoc;
   in_range = λ n h. record { first = tt; second = record { first = tt; second = h } };
 }
 
-pub named_free : (after : ℕ) (word : List ℕ) → after < 48 → IsPrefixFree (named_then after word) IsCount
-named_free after word low = parts_prefix_free (named_by_parts after word) (λ x y is i. (is i).1.1)
-    (pairs_prefix_free (fixed_free word) (pairs_prefix_free (fixed_free (space ∷ [])) (numbers_prefix_free after 18446744073709551615 low (omega arith))))
+pub named_free : (after most : ℕ) (word : List ℕ) → after < 48 → most < 2 ^ 64 → IsPrefixFree (named_then after word) (λ n. n ≤ most)
+named_free after most word low limit = parts_prefix_free (named_by_parts after most word) (λ x y is i. (is i).1.1)
+    (pairs_prefix_free (fixed_free word) (pairs_prefix_free (fixed_free (space ∷ [])) (numbers_prefix_free after most low limit)))
 
 abbrev pub totals_parts : Totals → ℕ × ℕ
 totals_parts t = (t.records, t.datagrams)
@@ -40,8 +40,8 @@ totals_by_parts = record {
 }
 
 pub records_free : IsPrefixFree (named_then space (codes "records")) IsCount
-records_free = named_free space (codes "records") (omega arith)
+records_free = named_free space 18446744073709551615 (codes "records") (omega arith) (omega arith)
 
 pub totals_free : IsPrefixFree totals_text AreTotalsInRange
 totals_free = parts_prefix_free totals_by_parts (λ x y is i. record { records = (is i).0; datagrams = (is i).1 })
-    (pairs_prefix_free records_free (named_free line_feed (codes "datagrams") (omega arith)))
+    (pairs_prefix_free records_free (named_free line_feed 18446744073709551615 (codes "datagrams") (omega arith) (omega arith)))

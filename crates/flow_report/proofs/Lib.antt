@@ -1,7 +1,9 @@
 pub mod Cuts
+pub mod EngineParts
 pub mod Fronts
 pub mod LastParts
 pub mod LineFeeds
+pub mod LineKinds
 pub mod Parts
 pub mod Reports
 pub mod Rising

@@ -1,15 +1,18 @@
--- A flow's line has one line feed.
+-- A line of a flow or of an engine has one line feed.
 use Rattle.std.specs.List.{flat_map, count_by}
-use Rattle.std.proofs.Common.{◌≡◌, ◌≢◌, ℕ, ◌<◌, ◌≤◌, ◌+◌, ◌^◌, List, [], ◌∷◌, ◌++◌, All, cond, eqb, length, decimal, ap, ap₂, refl, ◌∙◌, arith}
+use Rattle.std.proofs.Common.{◌≡◌, ◌≢◌, ℕ, ◌<◌, ◌≤◌, ◌+◌, ◌^◌, List, [], ◌∷◌, ◌++◌, All, cond, eqb, length, codes, decimal, ap, ap₂, refl, subst, ◌∙◌, arith}
 use Rattle.std.proofs.lemmas.Bool.Decides.{nat_tests}
 use Rattle.std.proofs.lemmas.List.Elements.{All-head, All-tail}
 use Rattle.std.proofs.lemmas.List.Sums.{sum_by-append, sum_by-cons}
 use Rattle.flow_fold.specs.Flows.{Flows}
-use Rattle.flow_report.specs.Ranges.{IsKeyInRange, IsValueInRange, IsFlowInRange}
-use Rattle.flow_report.specs.Text.{number_then, address_text, key_text, value_text, flow_line, space, dot, line_feed}
+use Rattle.netflow_five.specs.declared.engine_line.EngineLine.{EngineLine}
+use Rattle.flow_report.specs.Ranges.{IsKeyInRange, IsValueInRange, IsFlowInRange, IsEngineInRange}
+use Rattle.flow_report.specs.Text.{number_then, address_text, key_text, value_text, flow_line, engine_text, named_then, space, dot, line_feed}
 use Rattle.flow_report.proofs.Cuts.{none_in_decimal}
+use Rattle.flow_report.proofs.EngineParts.{engine_by_parts}
+use Rattle.flow_report.proofs.LastParts.{named_by_parts}
 use Rattle.flow_report.proofs.Parts.{IsByte, IsPort, IsAddress, IsCount, address_by_parts, key_by_parts, value_by_parts, flow_by_parts}
-use Rattle.flow_report.proofs.Spellings.{spelled_after, BothIn, IsSpelledBy}
+use Rattle.flow_report.proofs.Spellings.{spelled_after, BothIn, IsSpelledBy, fixed, Always}
 
 abbrev feeds : List ℕ → ℕ
 feeds text = count_by (λ b. eqb b line_feed) text
@@ -71,10 +74,30 @@ in_value = by_parts value_by_parts (in_pair in_count (in_pair in_count (in_pair 
 in_line : HasFeeds flow_line IsFlowInRange 1
 in_line = by_parts flow_by_parts (in_pair in_key in_value)
 
--- as many line feeds as flows
-pub feeds_are_flows : (flows : Flows) → All IsFlowInRange flows → count_by (λ b. eqb b line_feed) (flat_map flow_line flows) ≡ length flows
-feeds_are_flows [] h = refl
-feeds_are_flows (flow ∷ flows) h =
-    let line = in_line.are flow (All-head IsFlowInRange flow flows h) in
-    let rest = feeds_are_flows flows (All-tail IsFlowInRange flow flows h) in
-    omega (arith, feeds_after (flow_line flow) (flat_map flow_line flows))
+in_fixed : (text : List ℕ) → feeds text ≡ 0 → HasFeeds (fixed text) Always 0
+in_fixed text h = record { are = λ x in_range. h }
+
+in_named : (after most count : ℕ) (word : List ℕ) → most < 2 ^ 64 → feeds (after ∷ []) ≡ count → feeds word ≡ 0 → HasFeeds (named_then after word) (λ n. n ≤ most) count
+in_named after most count word limit last none =
+    let same : 0 + (0 + count) ≡ count = omega arith in
+    subst (λ (k : ℕ). HasFeeds (named_then after word) (λ n. n ≤ most) k) same
+    (by_parts (named_by_parts after most word) (in_pair (in_fixed word none) (in_pair (in_fixed (space ∷ []) refl) (in_number after most count limit last))))
+
+in_engine : HasFeeds engine_text IsEngineInRange 1
+in_engine = by_parts engine_by_parts (in_pair (in_named space 255 0 (codes "engine") (omega arith) refl refl) (in_pair (in_byte space refl)
+    (in_pair (in_named space 18446744073709551615 0 (codes "flows") (omega arith) refl refl)
+    (in_pair (in_named space 18446744073709551615 0 (codes "lost") (omega arith) refl refl)
+    (in_named line_feed 18446744073709551615 1 (codes "resets") (omega arith) refl refl)))))
+
+feeds_are_lines : {X : Type 0} (line : X → List ℕ) (P : X → Type 0) → HasFeeds line P 1 → (xs : List X) → All P xs → feeds (flat_map line xs) ≡ length xs
+feeds_are_lines line P h [] in_range = refl
+feeds_are_lines line P h (x ∷ xs) in_range =
+    let one = h.are x (All-head P x xs in_range) in
+    let rest = feeds_are_lines line P h xs (All-tail P x xs in_range) in
+    omega (arith, feeds_after (line x) (flat_map line xs))
+
+-- as many line feeds as flows and engines
+pub feeds_are_rows : (flows : Flows) (engines : List EngineLine) → All IsFlowInRange flows → All IsEngineInRange engines
+    → count_by (λ b. eqb b line_feed) (flat_map flow_line flows ++ flat_map engine_text engines) ≡ length flows + length engines
+feeds_are_rows flows engines flows_in engines_in =
+    omega (arith, feeds_after (flat_map flow_line flows) (flat_map engine_text engines), feeds_are_lines flow_line IsFlowInRange in_line flows flows_in, feeds_are_lines engine_text IsEngineInRange in_engine engines engines_in)

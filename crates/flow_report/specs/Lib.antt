@@ -1,3 +1,4 @@
+pub mod EngineOrder
 pub mod Ranges
 pub mod ReadBack
 pub mod Reading

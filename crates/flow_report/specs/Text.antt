@@ -4,6 +4,7 @@ use Rattle.std.specs.List.{flat_map, join_with_byte}
 use Rattle.flow_fold.specs.Flows.{Flows}
 use Rattle.flow_fold.specs.declared.key.Key.{Key}
 use Rattle.flow_fold.specs.declared.value.Value.{Value}
+use Rattle.netflow_five.specs.declared.engine_line.EngineLine.{EngineLine}
 use Rattle.flow_report.specs.Sums.{packets_of, octets_of}
 use Rattle.flow_report.specs.declared.totals.Totals.{Totals}
 
@@ -60,6 +61,12 @@ named word number = word ++ space ∷ decimal number
 unfoldable pub named_then : ℕ → List ℕ → ℕ → List ℕ
 named_then after word number = named word number ++ after ∷ []
 
+-- the line of an engine: type and id, how many of its flows came, how many were lost, how often its numbers went back
+unfoldable pub engine_text : EngineLine → List ℕ
+engine_text line = words_then line_feed (
+    named (codes "engine") line.engine_type ∷ decimal line.engine_id
+    ∷ named (codes "flows") line.flows ∷ named (codes "lost") line.lost ∷ named (codes "resets") line.resets ∷ [])
+
 -- the first half of the last line: how many flows there are, and their packets and octets together
 unfoldable pub sums_text : ℕ → ℕ → ℕ → List ℕ
 sums_text flows packets octets = words_then space (named (codes "flows") flows ∷ named (codes "packets") packets ∷ named (codes "octets") octets ∷ [])
@@ -76,6 +83,6 @@ last_line flows packets octets totals = sums_text flows packets octets ++ totals
 abbrev pub last_line_of : Flows → Totals → List ℕ
 last_line_of flows totals = last_line (length flows) (packets_of flows) (octets_of flows) totals
 
--- a line for each flow, and the last line
-unfoldable pub report_text : Flows → Totals → List ℕ
-report_text flows totals = flat_map flow_line flows ++ last_line_of flows totals
+-- a line for each flow, a line for each engine, and the last line
+unfoldable pub report_text : Flows → List EngineLine → Totals → List ℕ
+report_text flows engines totals = flat_map flow_line flows ++ (flat_map engine_text engines ++ last_line_of flows totals)

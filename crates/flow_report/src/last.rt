@@ -1,11 +1,11 @@
 // The last line, read.
-ghost use Rattle.std.specs.Prelude.{◌<◌, ◌≤◌, IfOk};
+ghost use Rattle.std.specs.Prelude.{IfOk};
 ghost use Rattle.flow_report.specs.Ranges.{AreTotalsInRange};
 ghost use Rattle.flow_report.specs.Reading.{IsFrontOf, EndsInTotals};
-ghost use Rattle.flow_report.specs.Text.{named_then, sums_text, totals_text};
+ghost use Rattle.flow_report.specs.Text.{sums_text, totals_text};
 
 use crate::line::{LAST_LINE_ROOM, add_sums};
-use crate::number::read_number;
+use crate::number::read_named;
 use crate::sums::Sums;
 use crate::totals::Totals;
 use decimal_text::TextWriter;
@@ -36,19 +36,7 @@ fn totals_after(text: &[u8], front: &[u8]) -> Option<Totals>
 fn read_totals(text: &[u8]) -> Option<(Totals, &[u8])>
     ensures { IsFrontOf totals_text AreTotalsInRange text.now result }
 {
-    let (records, text) = read_named(text, b"records", b' ')?;
-    let (datagrams, text) = read_named(text, b"datagrams", b'\n')?;
+    let (records, text) = read_named(text, b"records", u64::MAX, b' ')?;
+    let (datagrams, text) = read_named(text, b"datagrams", u64::MAX, b'\n')?;
     Some((Totals { records, datagrams }, text))
-}
-
-/// The number that the text begins with after a word and a space, where the byte `after` follows.
-fn read_named<'a>(text: &'a [u8], word: &[u8], after: u8) -> Option<(u64, &'a [u8])>
-    // no digit
-    requires { after < 48 }
-    ensures { IsFrontOf (named_then after word.now) (λ n. n ≤ u64.MAX) text.now result }
-{
-    let text = text.strip_prefix(word)?;
-    let text = text.strip_prefix(b" ")?;
-    let (number, text) = read_number(text, u64::MAX, after)?;
-    Some((number, text))
 }

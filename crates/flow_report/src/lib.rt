@@ -1,6 +1,7 @@
 //! The report of a tally: its text, and reading that text back.
 #![tactic(auto)]
 
+mod engine_lines;
 mod fields;
 mod last;
 mod line;

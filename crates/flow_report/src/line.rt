@@ -1,12 +1,13 @@
 // Lines of the report and their parts, each put at the end of one text.
 ghost use Rattle.std.specs.Prelude.{◌≡◌, ◌≤◌, [], ◌∷◌, ◌++◌, length, OnOk};
-ghost use Rattle.flow_report.specs.Ranges.{IsKeyInRange, IsValueInRange, IsFlowInRange, AreTotalsInRange};
-ghost use Rattle.flow_report.specs.Text.{space, number_then, address_text, key_text, value_text, flow_line, named, named_then, sums_text, totals_text, last_line};
+ghost use Rattle.flow_report.specs.Ranges.{IsKeyInRange, IsValueInRange, IsFlowInRange, IsEngineInRange, AreTotalsInRange};
+ghost use Rattle.flow_report.specs.Text.{space, number_then, address_text, key_text, value_text, flow_line, named, named_then, sums_text, totals_text, last_line, engine_text};
 
 use crate::sums::Sums;
 use crate::totals::Totals;
 use decimal_text::{TextWriter, decimal_len};
 use flow_fold::{Key, Value};
+use netflow_five::EngineLine;
 use std::alloc::AllocError;
 
 /// Four numbers of up to three digits, and three dots.
@@ -14,6 +15,9 @@ const ADDRESS_ROOM: usize = 4 * 3 + 3;
 
 /// Two addresses, two ports, protocol and type of service, the interface; seven spaces.
 pub(crate) const KEY_ROOM: usize = 2 * (ADDRESS_ROOM + 5 + 3) + 5 + 7;
+
+/// Four words, type and id, three numbers; eight spaces and the line feed.
+pub(crate) const ENGINE_ROOM: usize = (6 + 5 + 4 + 6) + 2 * 3 + 3 * 20 + 9;
 
 /// Five words, the number of flows, two sums of 128 bits, two totals; nine spaces and the line feed.
 pub(crate) const LAST_LINE_ROOM: usize = (5 + 7 + 6 + 7 + 9) + 20 + 2 * 39 + 2 * 20 + 10;
@@ -100,6 +104,19 @@ fn add_named(text: &mut TextWriter, word: &[u8], number: u128, after: u8) -> Res
     text.push_byte(b' ')?;
     text.push_number(number)?;
     text.push_byte(after)
+}
+
+/// The line of an engine.
+pub(crate) fn add_engine(text: &mut TextWriter, line: EngineLine) -> Result<(), AllocError>
+    ensures line { OnOk result (text.new ≡ text.old ++ engine_text line) }
+    ensures in_range { OnOk result (IsEngineInRange line) }
+{
+    add_named(text, b"engine", u128::from(line.engine_type), b' ')?;
+    add_number(text, u64::from(line.engine_id), b' ')?;
+    add_named(text, b"flows", u128::from(line.flows), b' ')?;
+    add_named(text, b"lost", u128::from(line.lost), b' ')?;
+    add_named(text, b"resets", u128::from(line.resets), b'\n')?;
+    Ok(())
 }
 
 /// The first half of the last line: what the flow lines say together.
