@@ -1,6 +1,9 @@
 #!/usr/bin/env python3
 """Compares a report with what nfdump keeps of the same export, flow by flow: packets, octets, both moments in milliseconds, and flags.
 
+Then it compares the breaks in the engines' numbers, as the export stands and with datagrams left out, sent twice and exchanged. nfdump counts
+the gaps that aren't 0 and calls them sequence failures; so does the fold that is written here apart from the program.
+
 usage: nfdump.py PROGRAM EXPORT [PORT]
 
 It wants nfdump 1.7 and isn't in the gate. The export's datagrams go to nfcapd over the loopback address, by PORT (9995). nfcapd keeps a moment of
@@ -16,6 +19,9 @@ import subprocess
 import sys
 import tempfile
 import time
+
+sys.dont_write_bytecode = True
+import fold
 
 HEADER, RECORD = 24, 48
 FLAGS = {"C": 128, "E": 64, "U": 32, "A": 16, "P": 8, "R": 4, "S": 2, "F": 1}
@@ -92,6 +98,40 @@ def told_by_report(program: str, export: str) -> dict:
     return flows
 
 
+def failures(file: str) -> int:
+    """The sequence failures that nfcapd found."""
+    told = subprocess.run(["nfdump", "-r", file, "-I"], check=True, capture_output=True, text=True).stdout
+    return int(next(line for line in told.splitlines() if line.startswith("Sequence failures:")).split()[2])
+
+
+def breaks(export: bytes) -> int:
+    """How many gaps of an engine aren't 0."""
+    return sum(gap != 0 for _, _, gaps in fold.engines([fold.mark(sent) for sent in datagrams(export)]) for gap in gaps)
+
+
+def with_breaks(export: bytes) -> list[tuple[str, bytes]]:
+    """The export, and what a network makes of it."""
+    sent, half = datagrams(export), len(datagrams(export)) // 2
+    return [
+        ("as it stands", export),
+        ("three left out", b"".join(sent[:half] + sent[half + 3:])),
+        ("one twice", b"".join(sent[:half + 1] + sent[half:])),
+        ("two exchanged", b"".join(sent[:half] + [sent[half + 1], sent[half]] + sent[half + 2:])),
+        ("the second half first", b"".join(sent[half:] + sent[:half])),
+    ]
+
+
+def unlike_breaks(export: bytes, port: int) -> int:
+    """In how many cases nfdump finds another number of breaks."""
+    unlike = 0
+    for what, data in with_breaks(export):
+        with tempfile.TemporaryDirectory() as folder:
+            ours, theirs = breaks(data), failures(collected(data, port, folder))
+        print(f"breaks, {what}: {ours}, of nfdump {theirs}")
+        unlike += ours != theirs
+    return unlike
+
+
 def main() -> None:
     program, export = sys.argv[1:3]
     port = int(sys.argv[3]) if len(sys.argv) > 3 else 9995
@@ -102,7 +142,8 @@ def main() -> None:
     print(f"flows {len(ours)}, of nfdump {len(theirs)}, unlike {len(unlike)}")
     for key in unlike[:5]:
         print(key, ours.get(key), theirs.get(key))
-    sys.exit(1 if unlike or not ours else 0)
+    unlike_numbers = unlike_breaks(pathlib.Path(export).read_bytes(), port)
+    sys.exit(1 if unlike or unlike_numbers or not ours else 0)
 
 
 if __name__ == "__main__":

@@ -29,6 +29,6 @@ def ending(files: list, flows: int) -> tuple:
         if fault is not None:
             return 6, b"", f"flow_tally: file {number} offset {fault[0]}: {fault[1]}\n".encode()
     report = fold.report(files)
-    if len(report.splitlines()) - 1 > flows:
+    if fold.flow_count(report) > flows:
         return 7, b"", f"flow_tally: more than {flows} flows\n".encode()
     return 0, report, b""

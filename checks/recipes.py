@@ -30,7 +30,7 @@ TORN = 40_000  # where the torn file ends
 RESULTS = {  # what a recipe makes, and what isn't there where it fails
     "report": ["report.txt", "flows.txt"], "torn": ["front.nf5"], "talkers": [], "sources": [], "csv": ["report.csv"],
     "picture": ["top.svg"], "files": [], "reports": ["report.txt", "flows.txt"], "sql": ["flows.db"], "times": [],
-    "letters": [], "syn": [], "timeline": ["timeline.svg"],
+    "letters": [], "syn": [], "timeline": ["timeline.svg"], "losses": [], "alarm": [], "hours": ["losses.svg"],
 }
 
 
@@ -65,12 +65,19 @@ def cut(data: bytes) -> dict:
     return {f"export-{i}.nf5": part for i, part in enumerate(thirds(data))}
 
 
+def percent_lost(came: int, lost: int) -> float:
+    return 100 * lost / (came + lost) if came + lost else 0.0
+
+
 class Expected:
     """What the recipes print of an export, and the files that they leave."""
 
     def __init__(self, data: bytes) -> None:
         self.data = data
-        *self.lines, self.last = fold.report([data]).decode().splitlines(keepends=True)
+        report = fold.report([data]).decode().splitlines(keepends=True)
+        self.last = report[-1]
+        self.lines = [line for line in report if line[0].isdigit()]
+        self.engines = [line for line in report if line.startswith("engine ")]
         self.flows = [line.split() for line in self.lines]
 
     def largest(self, count: int) -> list:
@@ -125,6 +132,29 @@ class Expected:
             counts[second] = counts.get(second, 0) + 1
         return "".join(f"{second} {counts[second]}\n" for second in sorted(counts)).encode()
 
+    def losses(self) -> str:
+        """What each engine lost, in percent."""
+        rows = []
+        for _, kind, number, _, came, _, lost, _, resets in map(str.split, self.engines):
+            rows.append(f"{kind} {number} {came} {lost} {percent_lost(int(came), int(lost)):.2f}% {resets}\n")
+        return "".join(rows)
+
+    def alarm(self) -> str:
+        """The engines that lost more than a flow in a thousand, or whose numbers went back."""
+        def is_bad(words: list) -> bool:
+            return int(words[8]) > 0 or 1000 * int(words[6]) > int(words[4]) + int(words[6])
+        return "".join(line for line in self.engines if is_bad(line.split()))
+
+    def came_and_lost(self) -> tuple:
+        """How many flows of all engines came, and how many never did."""
+        engines = [line.split() for line in self.engines]
+        return sum(int(words[4]) for words in engines), sum(int(words[6]) for words in engines)
+
+    def hours(self) -> bytes:
+        """The loss of each of the three files in percent."""
+        parts = [Expected(part).came_and_lost() for part in thirds(self.data)]
+        return "".join(f"{i} {percent_lost(*part):.3f}\n" for i, part in enumerate(parts)).encode()
+
     def front(self) -> bytes:
         """The datagrams that are whole in the torn file."""
         return self.data[:max(place for place in borders(self.data) if place <= TORN)]
@@ -141,20 +171,22 @@ class Expected:
         return {
             "sample": "", "report": self.last, "tear": "", "torn": self.refusal(1) + Expected(self.front()).last,
             "talkers": self.talkers(), "sources": self.sources(), "csv": "".join(self.sheet()[:3]), "picture": "",
-            "letters": self.letters(), "syn": self.syn(), "timeline": "", "cut": "",
-            "files": self.last, "reports": "", "sql": self.protocols(), "times": self.times(), "trial": trials.MILLION + "\n",
+            "letters": self.letters(), "syn": self.syn(), "timeline": "", "losses": self.losses(), "alarm": self.alarm(), "cut": "",
+            "files": self.last, "reports": "", "hours": "", "sql": self.protocols(), "times": self.times(), "trial": trials.MILLION + "\n",
         }
 
     def files(self, name: str) -> dict:
         """The files that a recipe leaves, by name."""
         if name == "report":
-            return {"report.txt": ("".join(self.lines) + self.last).encode(), "flows.txt": "".join(self.lines).encode()}
+            return {"report.txt": ("".join(self.lines + self.engines) + self.last).encode(), "flows.txt": "".join(self.lines).encode()}
         if name == "torn":
             return {"front.nf5": self.front()}
         if name == "csv":
             return {"report.csv": "".join(self.sheet()).encode()}
         if name == "cut":
             return cut(self.data)
+        if name == "hours":
+            return {"hours.part": self.hours()}
         if name == "timeline":
             return {"seconds.part": self.seconds()}
         if name == "reports":
@@ -204,7 +236,7 @@ def ran_in(folder: str, recipe: Recipe, **how) -> subprocess.CompletedProcess:
 
 def prints(checks: Checks, what: str, folder: str, recipe: Recipe, wanted: str) -> None:
     ran = ran_in(folder, recipe, stderr=subprocess.STDOUT)
-    checks.is_same(f"{what}: status", ran.returncode, 0)
+    checks.is_same(f"{what}: status", ran.returncode, 1 if recipe.name == "alarm" and wanted else 0)
     checks.is_same(f"{what}: printed", ran.stdout, wanted)
 
 
@@ -238,7 +270,7 @@ def refuse_torn_files(checks: Checks, expected: Expected, found: list) -> None:
     """One export is torn, and the second of three files."""
     torn = expected.data[:TORN]
     for recipe in found:
-        if recipe.name in ("report", "files", "reports"):
+        if recipe.name in ("report", "alarm", "files", "reports", "hours"):
             what = f"recipe {recipe.name}, a torn file"
             folder = lay_out(checks, f"torn_{recipe.name}", {"export.nf5": torn, **cut(expected.data), "export-1.nf5": torn})
             ran = fails(checks, what, folder, recipe)

@@ -20,6 +20,7 @@ sys.dont_write_bytecode = True  # the repository stays as it was
 import devices
 import fold
 import limits
+import lost_flows
 import malformed
 import recipes
 import refused_memory
@@ -104,8 +105,9 @@ def one_record(checks: Checks) -> None:
     """The file of one record, and what most parts do with it."""
     data = fold.datagram([fold.record(0x0A000001, 0x0A000002, 1, 12, 3400, 1000, 2000, 1234, 80, 6, 0)])
     one = checks.file("one.nf5", data)
-    line = b"10.0.0.1 10.0.0.2 1234 80 6 0 1 12 3400 1699999991000 1699999992000 24\nflows 1 packets 12 octets 3400 records 1 datagrams 1\n"
-    checks.ends("one record", ["tally", one], 0, line)
+    lines = (b"10.0.0.1 10.0.0.2 1234 80 6 0 1 12 3400 1699999991000 1699999992000 24\nengine 0 0 flows 1 lost 0 resets 0\n"
+             b"flows 1 packets 12 octets 3400 records 1 datagrams 1\n")
+    checks.ends("one record", ["tally", one], 0, lines)
     bad_words(checks, one)
     bad_files(checks, one, data)
 
@@ -113,6 +115,7 @@ def one_record(checks: Checks) -> None:
 PARTS = {
     "one_record": one_record,
     "tallies": tallies,
+    "lost_flows": lost_flows.lost_flows,
     "wrong_orders": wrong_orders.wrong_orders,
     "drives": drives,
     "trials": trials.trials,

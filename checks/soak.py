@@ -57,7 +57,7 @@ class Soak:
         choose = self.choose
         keys = [fold.random_key(choose) for _ in range(choose.choice((1, 2, 8, 50, 500, 3_000)))]
         files = [fold.export(choose, keys, choose.choice((0, 1, 50, 1_000, 6_000))) for _ in range(choose.randrange(1, 4))]
-        flows = len(fold.report(files).splitlines()) - 1
+        flows = fold.flow_count(fold.report(files))
         names = [self.checks.file(f"file{i}", data) for i, data in enumerate(files, 1)]
         options = self.plan(flows)
         self.ends("tally", ["tally", *options, *names], files, reader.ending(files, int(options[3])))
@@ -68,7 +68,7 @@ class Soak:
         choose = self.choose
         keys = [fold.random_key(choose) for _ in range(choose.choice((2, 50, 500)))]
         files = [fold.export(choose, keys, len(keys) + 100)]
-        flows = len(fold.report(files).splitlines()) - 2
+        flows = fold.flow_count(fold.report(files)) - 1
         options = ["--workers", str(choose.randrange(1, 65)), "--flows", str(flows), "--buckets", str(choose.choice((16, 999)))]
         words = ["tally", *options, self.checks.file("file1", files[0])]
         self.ends("tally of too many flows", words, files, reader.ending(files, flows))
@@ -81,7 +81,7 @@ class Soak:
     def trial(self) -> None:
         start, n = self.choose.getrandbits(64), self.choose.choice((1, 7, 30, 90, 400))
         report = fold.report([generator.datagrams(start, n)])
-        words = ["trial", *self.plan(len(report.splitlines()) - 1), str(start), str(n)]
+        words = ["trial", *self.plan(fold.flow_count(report)), str(start), str(n)]
         self.ends("trial", words, [], (0, report.splitlines(keepends=True)[-1], b""))
         self.calls += int(report.split()[-3])
 

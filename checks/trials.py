@@ -46,7 +46,7 @@ def many_starts(checks: Checks) -> None:
         n, workers = FEW[i] if i < len(FEW) else choose.randrange(2, 70), choose.choice((1, 2, 4, 64))
         data = generator.datagrams(start, n)
         report = fold.report([data])
-        flows = max(1, len(report.splitlines()) - 1)
+        flows = max(1, fold.flow_count(report))
         options = ["--workers", str(workers), "--flows", str(flows), "--buckets", str(choose.randrange(1, 2000))]
         words = ["trial", *options, str(start), str(n)]
         checks.ends(f"the file of {words}", ["tally", *options, checks.file("generated", data)], 0, report)

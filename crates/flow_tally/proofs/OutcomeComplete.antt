@@ -17,8 +17,8 @@ use Rattle.flow_tally.proofs.OutcomeReport.{one_report}
 use Rattle.step_rules.specs.Closing.{ClosedData}
 
 -- a report by a closed object is a report
-is_report : {text : List ℕ} (tally : Tally) (names : Option Names) (closed : ClosedData) → IsPrintedOn tally names closed text → IsPrinted tally names text
-is_report tally names closed (contents, ds, flows, told, made, few, added, words) = (contents, ds, flows, told, made, few, words)
+is_report : (text : List ℕ) (tally : Tally) (names : Option Names) (closed : ClosedData) → IsPrintedOn tally names closed text → IsPrinted tally names text
+is_report text tally names closed (contents, ds, flows, told, made, few, added, is) = (contents, ds, flows, told, made, few, is)
 
 -- what has come of a script is a script
 good_script : {text : List ℕ} (drive : Drive) (names : Option Names) (closed : ClosedData) → IsDriven drive names closed text → IsGoodScript drive names
@@ -31,7 +31,7 @@ telling feed names = record feed { names = Some names }
 -- where there is an output, Done is determined
 output_decided : (asked : Option Command) (feed : FeedShown) (names : Names) (object : ClosedData) (text : List ℕ) → Prints asked (telling feed names) object text → Determines asked names Done
 output_decided None feed names object text prints = absurd prints.2
-output_decided (Some (OfTally tally)) feed names object text prints = (prints.0, text, is_report tally (Some names) object prints.2)
+output_decided (Some (OfTally tally)) feed names object text prints = (prints.0, text, is_report text tally (Some names) object prints.2)
 output_decided (Some (OfDrive drive)) feed names object text prints = good_script drive (Some names) object prints.2
 
 module _ (asked : Option Command) (feed : FeedShown) (out : OutShown) (closed : Option ClosedData) (names : Names) where
@@ -86,7 +86,7 @@ reported None feed out closed names text result told says is done = absurd is
 reported (Some (OfDrive drive)) feed out closed names text result told says is done = absurd is
 reported (Some (OfTally tally)) feed out closed names text result told says is done =
     let (wrote, (object, there, prints), took) = says_told (Some (OfTally tally)) feed out closed names Done told (subst (λ (s : Status). Says (Some (OfTally tally)) feed out closed s) done says) in
-    subst (λ (z : List ℕ). Appends out.taken_before z out.taken_after) (one_report tally names wrote text (is_report tally (Some names) object prints.2) is) took.all
+    subst (λ (z : List ℕ). Appends out.taken_before z out.taken_after) (one_report tally names wrote text (is_report wrote tally (Some names) object prints.2) is) took.all
 
 -- all that holds of a run follows from what its status says
 pub has_run : (asked : Option Command) (feed : FeedShown) (out : OutShown) (closed : Option ClosedData) (status : Status) → Says asked feed out closed status → HasRun asked feed out closed status

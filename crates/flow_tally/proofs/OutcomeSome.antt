@@ -7,6 +7,7 @@ use Rattle.std.proofs.lemmas.Option.{slice_get-get_or}
 use Rattle.wire_ports.specs.Ports.{Names, bytes_under}
 use Rattle.netflow_five.specs.File.{joined, IsWellFormed}
 use Rattle.netflow_five.specs.Generating.{generated}
+use Rattle.netflow_five.specs.Mark.{mark_of}
 use Rattle.netflow_five.proofs.Files.{joined_well}
 use Rattle.netflow_five.proofs.SomeFault.{whole_or_bad}
 use Rattle.flow_fold.specs.Pair.{pairs_of}
@@ -19,8 +20,9 @@ use Rattle.call_script.proofs.Tuples.{drop_first, drop_nothing}
 use Rattle.flow_tally.specs.DriveOutcome.{IsDriveOutcome}
 use Rattle.flow_tally.specs.Input.{most_bytes, AreContents, AreGood}
 use Rattle.flow_tally.specs.Outcome.{Determines}
-use Rattle.flow_tally.specs.TallyOutcome.{AreTallied, IsTally, IsTallyOutcome, most_nodes, nodes_of, printed, totals_of}
+use Rattle.flow_tally.specs.TallyOutcome.{AreTallied, IsTally, IsTallyOutcome, most_nodes, nodes_of, totals_of}
 use Rattle.flow_tally.proofs.Inputs.{alone, good_more, next_file, told_more}
+use Rattle.flow_tally.proofs.OutcomeReport.{some_text}
 use Rattle.flow_tally.proofs.Sources.{generated_good}
 use Rattle.flow_tally.specs.Words.{Source, Files, Generated, Tally, Drive, Command, OfTally, OfDrive, HasFewDatagrams, IsWithin}
 use Rattle.flow_tally.specs.declared.status.Status.{Status}
@@ -55,7 +57,7 @@ module _ (tally : Tally) (names : Names) where
       let made : IsTally contents ds.0 flows.0 = record { good = good; file = ds.1; rising = flows.1; fold = flows.2 } in
       elim (cases_lt tally.flows (length flows.0)) [
         | inl many ↦ (TooManyFlows tally.flows, (fits, refl, (contents, ds.0, flows.0, told, made, many)))
-        | inr few ↦ (Done, (fits, printed tally.source flows.0 (totals_of ds.0), (contents, ds.0, flows.0, told, made, few, refl)))
+        | inr few ↦ let text = some_text (map mark_of ds.0) flows.0 (totals_of ds.0) tally.source in (Done, (fits, text.0, (contents, ds.0, flows.0, told, made, few, text.1)))
       ]
 
 module _ (tally : Tally) (names : Names) (files : List (List ℕ)) where

@@ -1,8 +1,12 @@
 -- What a tally determines: its flows, what is printed of them, and why nothing is.
-use Rattle.std.specs.Prelude.{◌≡◌, ℕ, ◌+◌, ◌*◌, ◌^◌, ◌<◌, ◌≤◌, List, [], ◌∷◌, length, Option, Result, Ok, Err}
+use Rattle.std.specs.Prelude.{◌≡◌, ℕ, ◌+◌, ◌*◌, ◌^◌, ◌<◌, ◌≤◌, List, [], ◌∷◌, length, map, Option, Result, Ok, Err}
 use Rattle.wire_ports.specs.Ports.{Names}
 use Rattle.netflow_five.specs.File.{joined, IsFile, all_records}
 use Rattle.netflow_five.specs.Generating.{generated}
+use Rattle.netflow_five.specs.Losses.{IsLosses}
+use Rattle.netflow_five.specs.Mark.{mark_of}
+use Rattle.netflow_five.specs.declared.engine_line.EngineLine.{EngineLine}
+use Rattle.netflow_five.specs.declared.seq_mark.SeqMark.{SeqMark}
 use Rattle.flow_fold.specs.Flows.{Flows, HasRisingKeys, value_in}
 use Rattle.flow_fold.specs.Fold.{IsFold}
 use Rattle.flow_fold.specs.Pair.{pairs_of}
@@ -40,10 +44,11 @@ abbrev pub AreTallied : Option Names → Source → List (List ℕ) → Type 0
 AreTallied names (Files files) contents = AreContents names files contents
 AreTallied names (Generated start datagrams) contents = contents ≡ generated start datagrams ∷ []
 
--- what is printed of flows: the report, or its last line alone where the datagrams are generated
-abbrev pub printed : Source → Flows → Totals → List ℕ
-printed (Files files) = report_text
-printed (Generated start datagrams) = last_line_of
+-- the text is what is printed of flows and of the datagrams with these marks: the report with a line for each engine, or its last line alone where the datagrams
+-- are generated
+abbrev pub IsTextOf : Source → List SeqMark → Flows → Totals → List ℕ → Type 0
+IsTextOf (Files files) marks flows totals text = (engines : List EngineLine) × IsLosses marks engines × (text ≡ report_text flows engines totals)
+IsTextOf (Generated start datagrams) marks flows totals text = text ≡ last_line_of flows totals
 
 -- the contents are good and joined they are these datagrams, whose records have these flows, by rising key
 pub record IsTally (contents ds : List (List ℕ)) (flows : Flows) : Type 0 where
@@ -64,21 +69,22 @@ IsAddedUp tally ds flows closed =
 -- what the answer of a tally says of its contents and of the object on which their records were added up, or why there is none
 abbrev pub GivesText : Tally → List (List ℕ) → List (List ℕ) → Result Answer Status → Type 0
 GivesText tally contents ds (Ok answer) = (flows : Flows) × IsTally contents ds flows × (length flows ≤ tally.flows)
-    × IsAddedUp tally ds flows answer.closed × (answer.text.items ≡ printed tally.source flows (totals_of ds))
+    × IsAddedUp tally ds flows answer.closed × IsTextOf tally.source (map mark_of ds) flows (totals_of ds) answer.text.items
 GivesText tally contents ds (Err (TooManyFlows most)) = (flows : Flows) × IsTally contents ds flows × (most ≡ tally.flows) × (tally.flows < length flows)
 GivesText tally contents ds (Err NoMemory) = Unit {0}
 GivesText tally contents ds (Err _) = ⊥
 
--- the text is what is printed of the flows of what is tallied, no more than the tally may have
+-- the text is what is printed of the flows and the datagrams of what is tallied; there are no more flows than the tally may have
 abbrev pub IsPrinted : Tally → Option Names → List ℕ → Type 0
 IsPrinted tally names text = (contents : List (List ℕ)) × (ds : List (List ℕ)) × (flows : Flows)
-    × AreTallied names tally.source contents × IsTally contents ds flows × (length flows ≤ tally.flows) × (text ≡ printed tally.source flows (totals_of ds))
+    × AreTallied names tally.source contents × IsTally contents ds flows × (length flows ≤ tally.flows)
+    × IsTextOf tally.source (map mark_of ds) flows (totals_of ds) text
 
 -- and it is that of the flows that the records were added up to on this closed object
 abbrev pub IsPrintedOn : Tally → Option Names → ClosedData → List ℕ → Type 0
 IsPrintedOn tally names closed text = (contents : List (List ℕ)) × (ds : List (List ℕ)) × (flows : Flows)
     × AreTallied names tally.source contents × IsTally contents ds flows × (length flows ≤ tally.flows) × IsAddedUp tally ds flows closed
-    × (text ≡ printed tally.source flows (totals_of ds))
+    × IsTextOf tally.source (map mark_of ds) flows (totals_of ds) text
 
 -- what is tallied has more flows than the tally may have
 abbrev pub HasTooManyFlows : Tally → Option Names → Type 0

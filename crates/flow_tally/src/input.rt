@@ -1,4 +1,4 @@
-ghost use Rattle.std.specs.Prelude.{◌≡◌, ◌+◌, ◌<◌, ◌≤◌, ◌^◌, map, IfOk, MatchResult};
+ghost use Rattle.std.specs.Prelude.{◌≡◌, ◌≤◌, map, MatchResult};
 ghost use Rattle.std.specs.String.{string_bytes};
 ghost use Rattle.flow_tally.specs.Input.{feed_shown, RefusesFiles};
 ghost use Rattle.flow_tally.specs.Reading.{Reads, AddsFile, HasRead, status_of};
@@ -62,10 +62,8 @@ fn add_file<F: Feed>(
     name: &str,
     most: usize,
 ) -> Result<usize, Status>
-    requires datagrams { gathered.old.datagrams + most < 2 ^ 64 }
     ensures file { AddsFile most (feed_shown F.files F.faults F.failed F.current F.started F.left F.given feed.old feed.new) name.now file gathered.old gathered.new result }
     ensures current { F.current feed.new ≡ file }
-    ensures datagrams { IfOk result (λ n. gathered.new.datagrams ≤ gathered.old.datagrams + n) }
     ensures files { F.files feed.new ≡ F.files feed.old }
     ensures later { F.faults feed.old ≤ F.faults feed.new }
 {

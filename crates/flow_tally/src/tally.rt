@@ -1,11 +1,14 @@
-ghost use Rattle.std.specs.Prelude.{◌≡◌, ◌≤◌, ◌^◌, List, ℕ, Some, IfOk, MatchResult};
+ghost use Rattle.std.specs.Prelude.{◌≡◌, ◌≤◌, ◌^◌, List, ℕ, Some, length, IfOk, MatchResult};
 ghost use Rattle.flow_fold.specs.Flows.{HasRisingKeys};
+ghost use Rattle.flow_report.specs.Text.{report_text};
 ghost use Rattle.flow_tally.specs.Input.{feed_shown, RefusesFiles};
 ghost use Rattle.flow_tally.specs.OutShown.{out_shown};
 ghost use Rattle.flow_tally.specs.Outcome.{LeavesFeed, Prints, Refuses, Says};
 ghost use Rattle.flow_tally.specs.Reading.{HasRead, IsGatheredOf};
-ghost use Rattle.flow_tally.specs.TallyOutcome.{GivesText, IsGenerated, files_in, nodes_of, printed};
+ghost use Rattle.flow_tally.specs.TallyOutcome.{GivesText, IsGenerated, IsTextOf, files_in, nodes_of};
 ghost use Rattle.flow_tally.specs.Words.{OfTally, source_in, tally_in};
+ghost use Rattle.netflow_five.specs.Losses.{IsLosses};
+ghost use Rattle.netflow_five.specs.declared.engine_line.EngineLine.{EngineLine};
 
 use crate::answer::{Answer, Ended};
 use crate::gathered::Gathered;
@@ -17,6 +20,7 @@ use crate::status::Status;
 use crate::tally_words::TallyWords;
 use flow_fold::{Key, Value};
 use flow_report::{Totals, report, report_last_line};
+use netflow_five::{SeqMark, losses};
 use std::alloc::Global;
 use std::thread::Threads;
 use tally_core::{Tallied, TallyEnd, tally as add_up};
@@ -52,18 +56,35 @@ fn gather<F: Feed>(alloc: Global, feed: &mut F, source: &Source) -> Result<Gathe
     }
 }
 
-/// The report of the flows, or its last line alone where the datagrams were generated.
-fn print(
+/// The report of the flows and of the datagrams with these marks.
+fn print_report(
     alloc: Global,
-    source: &Source,
+    marks: &[SeqMark],
     flows: &[(Key, Value)],
     totals: &Totals,
 ) -> Result<Vec<u8>, NoMemory>
-    requires { HasRisingKeys flows.now }
-    ensures { IfOk result (λ text. text.items ≡ printed (source_in source.now) flows.now totals.now) }
+    requires rising { HasRisingKeys flows.now }
+    requires few { length marks.now ≤ 4194304 }
+    ensures { IfOk result (λ text. (engines : List EngineLine) × IsLosses marks.now engines × (text.items ≡ report_text flows.now engines totals.now)) }
+{
+    let engines = losses(alloc, marks)?;
+    report(alloc, flows, engines.as_slice(), totals)
+}
+
+/// The report, or its last line alone where the datagrams were generated.
+fn print(
+    alloc: Global,
+    source: &Source,
+    marks: &[SeqMark],
+    flows: &[(Key, Value)],
+    totals: &Totals,
+) -> Result<Vec<u8>, NoMemory>
+    requires rising { HasRisingKeys flows.now }
+    requires few { length marks.now ≤ 4194304 }
+    ensures { IfOk result (λ text. IsTextOf (source_in source.now) marks.now flows.now totals.now text.items) }
 {
     match source {
-        Source::Files(_) => report(alloc, flows, totals),
+        Source::Files(_) => print_report(alloc, marks, flows, totals),
         Source::Generated(_) => report_last_line(alloc, flows, totals),
     }
 }
@@ -98,9 +119,15 @@ fn answer_of<R: Threads + Sync, G: Gate>(
     };
     let totals = Totals {
         records: gathered.pairs.len() as u64,
-        datagrams: gathered.datagrams,
+        datagrams: gathered.marks.len() as u64,
     };
-    match print(alloc, &words.source, flows.as_slice(), &totals) {
+    match print(
+        alloc,
+        &words.source,
+        &gathered.marks,
+        flows.as_slice(),
+        &totals,
+    ) {
         Ok(text) => Ok(Answer { text, closed }),
         Err(_) => Err(Status::NoMemory),
     }

@@ -51,6 +51,8 @@ enum Part {
     OtherInput,
     /// The one datagram with another version.
     Nine,
+    /// The one datagram with this sequence number.
+    Numbered(u32),
     /// One datagram with the one record so many times, as its count says.
     Records(u8),
     /// So many first bytes of the one datagram.
@@ -85,6 +87,13 @@ fn one_but(at: usize, byte: u8) -> [u8; 72] {
     if at < bytes.len() {
         bytes[at] = byte;
     }
+    bytes
+}
+
+/// The one datagram with this sequence number.
+fn one_numbered(sequence: u32) -> [u8; 72] {
+    let mut bytes = ONE;
+    bytes[16..20].copy_from_slice(&sequence.to_be_bytes());
     bytes
 }
 
@@ -132,6 +141,7 @@ fn add_part(bytes: &mut Vec<u8>, part: Part) -> Result<(), AllocError> {
         Part::Large => bytes.extend_from_slice(&one_with(u32::MAX, 1, 1000, 2000)),
         Part::OtherInput => bytes.extend_from_slice(&one_but(37, 2)),
         Part::Nine => bytes.extend_from_slice(&one_but(1, 9)),
+        Part::Numbered(sequence) => bytes.extend_from_slice(&one_numbered(sequence)),
         Part::Records(count) => add_records(bytes, count),
         Part::Front(n) => bytes.extend_from_slice(ONE.get(..n).unwrap_or(&[])),
         Part::Zeros(n) => {
@@ -217,6 +227,7 @@ fn reports(rt: HostRuntime) -> Result<(), Fail> {
         "tally a",
         &[Part::One],
         "10.0.0.1 10.0.0.2 1234 80 6 0 1 12 3400 1694498807000 1694498808000 0\n\
+         engine 0 0 flows 1 lost 0 resets 0\n\
          flows 1 packets 12 octets 3400 records 1 datagrams 1\n",
     )?;
     done(
@@ -224,6 +235,7 @@ fn reports(rt: HostRuntime) -> Result<(), Fail> {
         "tally a",
         &[Part::One, Part::Earlier],
         "10.0.0.1 10.0.0.2 1234 80 6 0 1 15 4000 1694498806500 1694498808000 0\n\
+         engine 0 0 flows 2 lost 0 resets 1\n\
          flows 1 packets 15 octets 4000 records 2 datagrams 2\n",
     )?;
     done(
@@ -231,6 +243,7 @@ fn reports(rt: HostRuntime) -> Result<(), Fail> {
         "tally a",
         &[Part::Records(30)],
         "10.0.0.1 10.0.0.2 1234 80 6 0 1 360 102000 1694498807000 1694498808000 0\n\
+         engine 0 0 flows 30 lost 0 resets 0\n\
          flows 1 packets 360 octets 102000 records 30 datagrams 1\n",
     )?;
     done(
@@ -239,6 +252,7 @@ fn reports(rt: HostRuntime) -> Result<(), Fail> {
         &[Part::One, Part::OtherInput],
         "10.0.0.1 10.0.0.2 1234 80 6 0 1 12 3400 1694498807000 1694498808000 0\n\
          10.0.0.1 10.0.0.2 1234 80 6 0 2 12 3400 1694498807000 1694498808000 0\n\
+         engine 0 0 flows 2 lost 0 resets 1\n\
          flows 2 packets 24 octets 6800 records 2 datagrams 2\n",
     )?;
     done(
@@ -246,6 +260,7 @@ fn reports(rt: HostRuntime) -> Result<(), Fail> {
         "tally a",
         &[Part::One, Part::Zero],
         "10.0.0.1 10.0.0.2 1234 80 6 0 1 12 3400 1694498807000 1694498808000 0\n\
+         engine 0 0 flows 2 lost 0 resets 1\n\
          flows 1 packets 12 octets 3400 records 2 datagrams 2\n",
     )?;
     done(
@@ -253,6 +268,7 @@ fn reports(rt: HostRuntime) -> Result<(), Fail> {
         "tally --flows 1 a",
         &[Part::Large, Part::Large, Part::Large],
         "10.0.0.1 10.0.0.2 1234 80 6 0 1 12884901885 3 1694498807000 1694498808000 0\n\
+         engine 0 0 flows 3 lost 0 resets 2\n\
          flows 1 packets 12884901885 octets 3 records 3 datagrams 3\n",
     )?;
     done(
@@ -261,6 +277,7 @@ fn reports(rt: HostRuntime) -> Result<(), Fail> {
         &[Part::Real],
         "192.168.1.10 198.51.100.7 0 2048 1 0 3 5 420 1705032654500 1705032658500 0\n\
          192.168.1.10 203.0.113.5 49152 443 6 0 3 25 18230 1705032645700 1705032659800 27\n\
+         engine 0 1 flows 2 lost 0 resets 0\n\
          flows 2 packets 30 octets 18650 records 2 datagrams 1\n",
     )
 }
@@ -276,6 +293,7 @@ fn three_files(rt: HostRuntime) -> Result<(), Fail> {
             "10.0.{high}.{low} 10.0.0.2 1234 80 6 0 1 {packets} {octets} 1694498807000 1694498808000 0"
         )?;
     }
+    lines.push_str("engine 0 0 flows 12900 lost 0 resets 429\n")?;
     lines.push_str("flows 3000 packets 12900 octets 516000 records 12900 datagrams 430\n")?;
     row(
         &rt,
@@ -283,6 +301,46 @@ fn three_files(rt: HostRuntime) -> Result<(), Fail> {
         &[Part::Thousands],
         &[Part::Sources],
         (Status::Done, lines.as_str(), ""),
+    )
+}
+
+/// A row of two files, each of the one datagram with this sequence number, and what is told of its engine.
+fn two_numbered(
+    rt: &(impl Abort + Alloc<A = Global> + Threads + Sync),
+    sequences: (u32, u32),
+    engine: &str,
+) -> Result<(), Fail> {
+    let mut report = String::new(rt.alloc());
+    report.push_str("10.0.0.1 10.0.0.2 1234 80 6 0 1 24 6800 1694498807000 1694498808000 0\n")?;
+    report.push_str(engine)?;
+    report.push_str("flows 1 packets 24 octets 6800 records 2 datagrams 2\n")?;
+    row(
+        rt,
+        "tally a b",
+        &[Part::Numbered(sequences.0)],
+        &[Part::Numbered(sequences.1)],
+        (Status::Done, report.as_str(), ""),
+    )
+}
+
+#[test]
+fn lost_flows(rt: HostRuntime) -> Result<(), Fail> {
+    two_numbered(&rt, (0, 1), "engine 0 0 flows 2 lost 0 resets 0\n")?;
+    two_numbered(&rt, (0, 5), "engine 0 0 flows 2 lost 4 resets 0\n")?;
+    two_numbered(
+        &rt,
+        (4_294_967_295, 2),
+        "engine 0 0 flows 2 lost 2 resets 0\n",
+    )?;
+    two_numbered(
+        &rt,
+        (0, 2_147_483_648),
+        "engine 0 0 flows 2 lost 2147483647 resets 0\n",
+    )?;
+    two_numbered(
+        &rt,
+        (0, 2_147_483_649),
+        "engine 0 0 flows 2 lost 0 resets 1\n",
     )
 }
 
@@ -340,6 +398,7 @@ fn bad_datagrams(rt: HostRuntime) -> Result<(), Fail> {
 #[test]
 fn several_files(rt: HostRuntime) -> Result<(), Fail> {
     let twice = "10.0.0.1 10.0.0.2 1234 80 6 0 1 24 6800 1694498807000 1694498808000 0\n\
+                 engine 0 0 flows 2 lost 0 resets 1\n\
                  flows 1 packets 24 octets 6800 records 2 datagrams 2\n";
     done(&rt, "tally a a", &[Part::One], twice)?;
     done(&rt, "tally a --workers 64 a", &[Part::One], twice)?;

@@ -38,6 +38,7 @@ const NARROW: Devices = Devices {
 
 /// The report of the one datagram.
 const REPORT: &[u8] = b"10.0.0.1 10.0.0.2 1234 80 6 0 1 12 3400 1694498807000 1694498808000 0\n\
+                        engine 0 0 flows 1 lost 0 resets 0\n\
                         flows 1 packets 12 octets 3400 records 1 datagrams 1\n";
 
 const NOT_OPENED: &str = "flow_tally: file 1 cannot be opened\n";
@@ -124,16 +125,17 @@ fn each_call_of_the_feed_fails(rt: HostRuntime) -> Result<(), Fail> {
         (
             Status::Done,
             b"10.0.0.1 10.0.0.2 1234 80 6 0 1 24 6800 1694498807000 1694498808000 0\n\
+              engine 0 0 flows 2 lost 0 resets 1\n\
               flows 1 packets 24 octets 6800 records 2 datagrams 2\n",
             "",
         ),
     )
 }
 
-/// The report has 123 bytes, so that 16 writes take it.
+/// The report has 158 bytes, so that 20 writes take it.
 #[test]
 fn each_write_fails(rt: HostRuntime) -> Result<(), Fail> {
-    for before in 0..16u32 {
+    for before in 0..20u32 {
         let written = 8 * before as usize;
         device(
             &rt,
@@ -150,7 +152,7 @@ fn each_write_fails(rt: HostRuntime) -> Result<(), Fail> {
             ),
         )?;
     }
-    let devices = Devices { out: 17, ..SOUND };
+    let devices = Devices { out: 21, ..SOUND };
     let files: (&[Part], &[Part]) = (&[Part::One], &[]);
     device(&rt, "tally a", files, devices, (Status::Done, REPORT, ""))
 }
@@ -193,6 +195,7 @@ fn nine_at(offset: usize) -> Status {
 fn pieces_of_one_byte(rt: HostRuntime) -> Result<(), Fail> {
     let report = b"192.168.1.10 198.51.100.7 0 2048 1 0 3 5 420 1705032654500 1705032658500 0\n\
                    192.168.1.10 203.0.113.5 49152 443 6 0 3 25 18230 1705032645700 1705032659800 27\n\
+                   engine 0 1 flows 2 lost 0 resets 0\n\
                    flows 2 packets 30 octets 18650 records 2 datagrams 1\n";
     device(
         &rt,

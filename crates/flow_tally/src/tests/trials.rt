@@ -101,6 +101,7 @@ fn a_generated_file(rt: HostRuntime) -> Result<(), Fail> {
     let ended = run(&rt, alloc, &words, &mut feed, &mut out, &mut err, &OpenGate);
     assert_eq!(rt; ended.status, Status::Done);
     let report = "10.0.1.79 192.0.2.79 1359 443 17 0 4 1 100 1699981312123 1699981312249 24\n\
+                  engine 0 0 flows 1 lost 0 resets 0\n\
                   flows 1 packets 1 octets 100 records 1 datagrams 1\n";
     assert_eq!(rt; out.as_slice(), report.as_bytes());
     Ok(())

@@ -12,7 +12,6 @@ pub loop-name-init : goal.loop-name-init
 loop-name-init g c = record {
   read = none_so_far _ _ _ c.new-gathered.ensures;
   number = refl;
-  datagrams = omega (arith, c.new-gathered.ensures.datagrams);
   files = refl;
   out = record { last = λ none. absurd (omega arith); started = λ none. absurd (omega arith); none_left = λ none. absurd (omega arith); no_fault = refl; no_failure = refl };
 }
@@ -34,7 +33,6 @@ loop-name-preserved g c =
     record {
       read = file_so_far shown _ index c.loop-name.left c.in-Ok-add_file.n _ c.in-Some.next c.loop-name.gathered c.add_file.new.gathered there c.loop-name.invariant.read adds;
       number = number;
-      datagrams = omega (arith, c.in-Ok-add_file.ensures.datagrams, c.loop-name.invariant.datagrams, c.in-Ok-add_file.ensures.file.0);
       files = c.in-Ok-add_file.ensures.files ∙ c.loop-name.invariant.files;
       out = subst (λ (n : ℕ). IsReadOut n shown) number adds.7;
     }

@@ -1,4 +1,4 @@
-use Rattle.std.proofs.Common.{◌≡◌, ◌∙◌, ℕ, [], ◌∷◌, ◌++◌, take, refl, sym, ap, arith, append_assoc}
+use Rattle.std.proofs.Common.{◌≡◌, ◌∙◌, ℕ, List, [], ◌∷◌, ◌++◌, take, sym, ap, arith, append_assoc}
 use Rattle.std.proofs.lemmas.List.{append-nil}
 use Rattle.flow_fold.specs.Flows.{Flows}
 use Rattle.flow_fold.specs.Pair.{pairs_under, record_key, record_value}
@@ -8,6 +8,7 @@ use Rattle.flow_fold.specs.declared.value.Value.{Value}
 use Rattle.netflow_five.specs.Datagram.{records_of, count_of}
 use Rattle.netflow_five.specs.Header.{header_of}
 use Rattle.netflow_five.specs.declared.header.Header.{Header}
+use Rattle.netflow_five.specs.declared.seq_mark.SeqMark.{SeqMark}
 use Rattle.flow_tally.proofs.Gathering.{pairs_more, pairs_whole}
 use Rattle.flow_tally.proofs.gathered.Gathered.add_datagram.Goals as goal
 
@@ -17,7 +18,7 @@ loop-i-init c =
     record {
       pairs = c.in_ok-reserve.ensures.items ∙ sym (ap (λ (z : Flows). before ++ z) (pairs_under-none (header_of c.args.datagram.now.bytes.now)) ∙ append-nil before);
       room = omega (arith, c.in_ok-reserve.ensures.ok, c.count.ensures);
-      datagrams = refl;
+      marks = ◌∙◌ {A = List SeqMark} c.in_ok-push.ensures.items (ap (λ (mark : SeqMark). c.args.self.now.marks.items ++ mark ∷ []) c.mark.ensures);
     }
 
 pub loop-i-preserved : goal.loop-i-preserved
@@ -33,7 +34,7 @@ loop-i-preserved c =
           ∙ append_assoc before (pairs_under h (take c.loop-i.i (records_of d))) ((record_key r, record_value h r) ∷ [])
           ∙ ap (λ (z : Flows). before ++ z) (sym (pairs_more h d c.loop-i.i r c.flow-flow.ensures));
       room = omega (arith, c.push_reserved.ensures.len, c.push_reserved.ensures.capacity, c.loop-i.invariant.room);
-      datagrams = c.loop-i.invariant.datagrams;
+      marks = c.loop-i.invariant.marks;
     }
 
 pub returns-clause-adds : goal.returns-clause-adds
@@ -43,5 +44,5 @@ returns-clause-adds c =
     record {
       pairs = c.loop-i.invariant.pairs ∙ ap (λ (n : ℕ). c.args.self.now.pairs.items ++ pairs_under (header_of d) (take n (records_of d))) all
           ∙ ap (λ (z : Flows). c.args.self.now.pairs.items ++ z) (pairs_whole d);
-      datagrams = omega (arith, c.loop-i.invariant.datagrams);
+      marks = c.loop-i.invariant.marks;
     }
