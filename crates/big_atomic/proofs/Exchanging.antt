@@ -133,7 +133,8 @@ calm_now {reg} {word} {x} {u} sound may sees near =
     (sees.looks.calm BACK (x / 2) may.back may.claimed (inl refl) (subst (λ (n : ℕ). On may.back n) (sym near) may.stands) may.cell refl)
 
 -- THE MARK WAS CLEARED MEANWHILE
-module _ {reg word node x : ℕ} {u m : SeatData} (first : Sound u.view) (middle : Sound m.view) (other : x ≢ word) (near : x / 2 ≡ word / 2) (sees : Sees (BackupExchange reg word node) reg x u m) where
+module _ {reg word node x : ℕ} {u m : SeatData} (first : Sound u.view) (middle : Sound m.view) (other : x ≢ word) (near : x / 2 ≡ word / 2)
+    (sees : Sees (BackupExchange reg word node) reg x u m) where
   abbrev once : List Counted
   once = tried sees ∷ []
 

@@ -7,7 +7,8 @@ use Rattle.std.proofs.lemmas.List.Elements.{filter-append}
 use Rattle.std.proofs.Math.Seq.{drop-append_seam}
 use mathlib.Core.Option.{some}
 use lib.ListN.{get_elem?}
-use Rattle.big_atomic.specs.Turns.{IsPaid, TurnsArePaid, changes_on, claim_rounds, claim_stores, exchanges, is_claim_round, is_claim_store, is_exchange, is_lost, is_lost_by, is_scan_load, last_look, lost_steps, scan_loads}
+use Rattle.big_atomic.specs.Turns.{IsPaid, TurnsArePaid, changes_on, claim_rounds, claim_stores, exchanges, last_look, lost_steps, scan_loads}
+use Rattle.big_atomic.specs.Turns.{is_claim_round, is_claim_store, is_exchange, is_lost, is_lost_by, is_scan_load}
 use Rattle.seat_history.specs.declared.entry.Entry.{Entry}
 use Rattle.step_rules.proofs.Numbers.Places.{at_behind}
 use Rattle.step_rules.proofs.Numbers.Sets.{has_first}

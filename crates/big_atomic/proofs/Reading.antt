@@ -376,7 +376,8 @@ module _ {before mid : SeatData} (r : HasReleased before mid) where
   clear_view = ap (λ (z : SeatData). z.view) r.cleared
 
   release_goes : Goes 0 (Some (length before.view.seen)) clear before mid
-  release_goes = goes_still 0 clear before mid (subst (λ (z : View). OnlySteps before.view z) (sym clear_view) refl) (ap (λ (z : View). z.trail) clear_view) (ap (λ (z : View). z.seen) clear_view) refl
+  release_goes = goes_still 0 clear before mid (subst (λ (z : View). OnlySteps before.view z) (sym clear_view) refl)
+      (ap (λ (z : View). z.trail) clear_view) (ap (λ (z : View). z.seen) clear_view) refl
       (ap (λ (z : SeatData). z.object) r.cleared) (ap (λ (z : SeatData). z.first) r.cleared) (ap stock clear_view) r.last
 
   release_right : IsRight mid.view.plan mid.view.seen mid.view.stands (reading (length mid.view.seen) Release Done mid.view)

@@ -27,7 +27,8 @@ pub(crate) fn give(
     done: Reply,
 ) -> Given
     requires past { (b : Begun shared.now reg new done call) × Knows b (Decided turn.version turn.word turn.rec turn.kept) seat.old }
-    ensures given { (b : Begun shared.now reg new done call) → Knows b (Decided turn.version turn.word turn.rec turn.kept) seat.old → Knows b (stage_of done result (length seat.old.view.seen)) seat.new }
+    ensures given { (b : Begun shared.now reg new done call) → Knows b (Decided turn.version turn.word turn.rec turn.kept) seat.old
+        → Knows b (stage_of done result (length seat.old.view.seen)) seat.new }
 {
     if turn.rec == new {
         put_back_all(shared, seat);

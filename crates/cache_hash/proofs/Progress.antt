@@ -85,7 +85,8 @@ pub record Onward (from to : ℕ) (key : KeyWords) (among : Option (List ℕ) �
   pub never : NoneChanges among → exchanges steps ≡ 0
 
 pub scans_on : {from to : ℕ} {key : KeyWords} {among : Option (List ℕ) → Change → Type 0} {cell : ℕ} {b : List Counted} {mid now : SeatData} (scanned : Bool)
-    (due : Call → Type 0) (steps : List Counted) (look : ℕ) (before : SeatData) → Sound mid.view → Onward from to key among cell b mid now → Scans scanned due steps look before mid → Scans scanned due (steps ++ b) look before now
+    (due : Call → Type 0) (steps : List Counted) (look : ℕ) (before : SeatData) → Sound mid.view → Onward from to key among cell b mid now
+    → Scans scanned due steps look before mid → Scans scanned due (steps ++ b) look before now
 scans_on {b = b} false due steps look before sound o s =
     let none = o.none_scanned in
     let none_before = s.none in record { none = omega (arith, scan_loads-append steps b); retired = o.retired ∙ s.retired }

@@ -17,7 +17,8 @@ use Rattle.cache_hash.proofs.Keyed.{changes_by, keeps_same, on_key, there_for, t
 use Rattle.cache_hash.proofs.Progress.{Onward, after_scan, going_on, looks_onward, wants_as}
 use Rattle.cache_hash.specs.Asking.{AreInserts, AsksFor, Decides, call_for, would_change}
 use Rattle.cache_hash.specs.Calls.{NeedsNodes, value_at}
-use Rattle.cache_hash.specs.Changing.{Begun, CameBy, Changing, HasCome, HasDecided, HasLostTurn, MayAsk, Scans, TurnsBy, HasTried, HasTurned, IsAtTurn, IsDue, KnowsChain, KnowsEnd, MakesRoom, MayMake}
+use Rattle.cache_hash.specs.Changing.{Begun, CameBy, Changing, HasCome, HasDecided, HasLostTurn, HasTried, HasTurned}
+use Rattle.cache_hash.specs.Changing.{IsAtTurn, IsDue, KnowsChain, KnowsEnd, MakesRoom, MayAsk, MayMake, Scans, TurnsBy}
 use Rattle.cache_hash.specs.Changing.MakesRoom.{scans, stays}
 use Rattle.big_atomic.specs.declared.starting.Start.{Start}
 use Rattle.cache_hash.specs.declared.asked.Change.{Change}

@@ -11,10 +11,12 @@ use Rattle.call_script.specs.Spelling.{SpellsCall}
 use Rattle.call_script.specs.declared.bad_script.LineCause.{LineCause}
 use Rattle.call_script.specs.declared.bad_script.LineCause.TheVariants.{Words, Number, Range, Held}
 
-pub spelled_line : (line caller : List ℕ) (words : List (List ℕ)) (entry : Entry) → words_of line ≡ caller ∷ words → IsNumber caller entry.caller → SpellsCall words entry.call → SpellsEntry line entry
+pub spelled_line : (line caller : List ℕ) (words : List (List ℕ)) (entry : Entry)
+    → words_of line ≡ caller ∷ words → IsNumber caller entry.caller → SpellsCall words entry.call → SpellsEntry line entry
 spelled_line line caller words entry e n s = subst (λ ws. SpellsWords ws entry) (sym e) (n, s)
 
-pub line_spelled : (line caller : List ℕ) (words : List (List ℕ)) (entry : Entry) → words_of line ≡ caller ∷ words → SpellsEntry line entry → IsNumber caller entry.caller × SpellsCall words entry.call
+pub line_spelled : (line caller : List ℕ) (words : List (List ℕ)) (entry : Entry)
+    → words_of line ≡ caller ∷ words → SpellsEntry line entry → IsNumber caller entry.caller × SpellsCall words entry.call
 line_spelled line caller words entry e s = subst (λ ws. SpellsWords ws entry) e s
 
 -- the cause of a call's words is the line's

@@ -100,4 +100,6 @@ feeds_are_lines line P h (x ∷ xs) in_range =
 pub feeds_are_rows : (flows : Flows) (engines : List EngineLine) → All IsFlowInRange flows → All IsEngineInRange engines
     → count_by (λ b. eqb b line_feed) (flat_map flow_line flows ++ flat_map engine_text engines) ≡ length flows + length engines
 feeds_are_rows flows engines flows_in engines_in =
-    omega (arith, feeds_after (flat_map flow_line flows) (flat_map engine_text engines), feeds_are_lines flow_line IsFlowInRange in_line flows flows_in, feeds_are_lines engine_text IsEngineInRange in_engine engines engines_in)
+    let of_flows = feeds_are_lines flow_line IsFlowInRange in_line flows flows_in in
+    let of_engines = feeds_are_lines engine_text IsEngineInRange in_engine engines engines_in in
+    omega (arith, feeds_after (flat_map flow_line flows) (flat_map engine_text engines), of_flows, of_engines)

@@ -97,7 +97,8 @@ module _ {C : Type 0} {holds : C → List (List ℕ) → Type 0} {bytes rest : L
       (bad_here bytes (length (joined ds)) ds cause front_is (omega arith) (subst (λ (z : List ℕ). IsFault z cause) (sym last) fault))
 
 -- these bytes were read, so many: these datagrams, which came to what was collected, and those in the window
-pub record SoFar {C : Type 0} (holds : C → List (List ℕ) → Type 0) (start : FeedAt) (old : C) (read : ℕ) (bytes : List ℕ) (ds : List (List ℕ)) (window : List ℕ) (now : FeedAt) (new : C) : Type 0 where
+pub record SoFar {C : Type 0} (holds : C → List (List ℕ) → Type 0) (start : FeedAt) (old : C) (read : ℕ) (bytes : List ℕ) (ds : List (List ℕ)) (window : List ℕ)
+    (now : FeedAt) (new : C) : Type 0 where
   pub count : read ≡ length bytes
   pub given : HasGiven bytes start now
   pub front : CollectsFront holds bytes old ds window new

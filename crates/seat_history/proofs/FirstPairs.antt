@@ -103,6 +103,7 @@ stable_values old new stable n =
     let number : key_number key ≡ n = omega arith in
     let test = λ (k : KeyWords). not (is_lt (nat_cmp (key_number key) (key_number k))) && not (is_lt (nat_cmp (key_number k) (key_number key))) in
     let passes : (k : KeyWords) → eqb (key_number k) n ≡ true → test k ≡ true =
-    λ k here. subst (λ m. (not (is_lt (nat_cmp (key_number key) m)) && not (is_lt (nat_cmp m (key_number key)))) ≡ true) (number ∙ sym (eqb-true (key_number k) n here)) (ties_itself (key_number key)) in
+    λ k here. subst (λ m. (not (is_lt (nat_cmp (key_number key) m)) && not (is_lt (nat_cmp m (key_number key)))) ≡ true)
+    (number ∙ sym (eqb-true (key_number k) n here)) (ties_itself (key_number key)) in
     sym (lookup-filter-keys (λ k. eqb (key_number k) n) test true passes new)
     ∙ (ap (λ pairs. value_in pairs n) (stable (key, [])) ∙ lookup-filter-keys (λ k. eqb (key_number k) n) test true passes old)

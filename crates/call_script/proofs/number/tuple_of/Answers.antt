@@ -21,7 +21,8 @@ numbers-preserved g c =
     record {
       long = omega (arith, i.long, length-set {A = ℕ});
       within = omega arith;
-      spelled = tuple_more c.numbers.count c.in-Some-number_of.number _ c.numbers.words c.cut.result.0.now _ (omega (arith, i.long, c.if-count.false)) left c.in-Some-number_of.ensures.found i.spelled;
+      spelled = tuple_more c.numbers.count c.in-Some-number_of.number _ c.numbers.words c.cut.result.0.now _ (omega (arith, i.long, c.if-count.false)) left
+          c.in-Some-number_of.ensures.found i.spelled;
       zeros = zeros_more g.row.N c.numbers.count c.in-Some-number_of.number c.numbers.words (omega arith) i.zeros;
       rest = (drop_first _ c.numbers.count c.cut.result.0.now [] _ left).2;
     }

@@ -73,7 +73,8 @@ lines-preserved c =
     record {
       read = subst (λ es. IsReadSoFar c.args.callers (parts_in 10 (option_map (λ bytes. bytes.now) c.args.bytes)) es) (sym longer)
           (read_more c.args.callers _ entries i.read c.cut.result.0.now _ entry left room c.in-Ok.ensures.spelled c.in-Ok.ensures.range may);
-      left = ap (λ (es : List Entry). drop (length es) (parts_in 10 (option_map (λ bytes. bytes.now) c.args.bytes))) longer ∙ left_more c.args.callers _ entries i.read c.cut.result.0.now _ entry left;
+      left = ap (λ (es : List Entry). drop (length es) (parts_in 10 (option_map (λ bytes. bytes.now) c.args.bytes))) longer
+          ∙ left_more c.args.callers _ entries i.read c.cut.result.0.now _ entry left;
       tells = subst (λ o. TellsHolders c.note_call.new.holding o)
           (sym (ap (object_from blank_object) longer ∙ object_from-append blank_object entries (entry ∷ []))) (c.note_call.ensures object i.tells);
     }

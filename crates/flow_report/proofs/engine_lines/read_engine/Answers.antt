@@ -7,16 +7,26 @@ pub returns-in_err-engine_type : goal.returns-in_err-engine_type
 returns-in_err-engine_type c = rw c.from_residual.ensures (none_by_parts engine_by_parts (none_first _ _ c.in_err-engine_type.ensures))
 
 pub returns-in_err-engine_id : goal.returns-in_err-engine_id
-returns-in_err-engine_id c = rw c.from_residual-in_err-engine_id.ensures (none_by_parts engine_by_parts (none_second types_free c.in_ok-engine_type.ensures (none_first _ _ c.in_err-engine_id.ensures)))
+returns-in_err-engine_id c =
+    rw c.from_residual-in_err-engine_id.ensures (none_by_parts engine_by_parts
+    (none_second types_free c.in_ok-engine_type.ensures (none_first _ _ c.in_err-engine_id.ensures)))
 
 pub returns-in_err-flows : goal.returns-in_err-flows
-returns-in_err-flows c = rw c.from_residual-in_err-flows.ensures (none_by_parts engine_by_parts (none_second types_free c.in_ok-engine_type.ensures (none_second ids_free c.in_ok-engine_id.ensures (none_first _ _ c.in_err-flows.ensures))))
+returns-in_err-flows c =
+    rw c.from_residual-in_err-flows.ensures (none_by_parts engine_by_parts
+    (none_second types_free c.in_ok-engine_type.ensures (none_second ids_free c.in_ok-engine_id.ensures (none_first _ _ c.in_err-flows.ensures))))
 
 pub returns-in_err-lost : goal.returns-in_err-lost
-returns-in_err-lost c = rw c.from_residual-in_err-lost.ensures (none_by_parts engine_by_parts (none_second types_free c.in_ok-engine_type.ensures (none_second ids_free c.in_ok-engine_id.ensures (none_second came_free c.in_ok-flows.ensures (none_first _ _ c.in_err-lost.ensures)))))
+returns-in_err-lost c =
+    rw c.from_residual-in_err-lost.ensures (none_by_parts engine_by_parts
+    (none_second types_free c.in_ok-engine_type.ensures (none_second ids_free c.in_ok-engine_id.ensures
+    (none_second came_free c.in_ok-flows.ensures (none_first _ _ c.in_err-lost.ensures)))))
 
 pub returns-in_err-resets : goal.returns-in_err-resets
-returns-in_err-resets c = rw c.from_residual-in_err-resets.ensures (none_by_parts engine_by_parts (none_second types_free c.in_ok-engine_type.ensures (none_second ids_free c.in_ok-engine_id.ensures (none_second came_free c.in_ok-flows.ensures (none_second lost_free c.in_ok-lost.ensures c.in_err-resets.ensures)))))
+returns-in_err-resets c =
+    rw c.from_residual-in_err-resets.ensures (none_by_parts engine_by_parts
+    (none_second types_free c.in_ok-engine_type.ensures (none_second ids_free c.in_ok-engine_id.ensures
+    (none_second came_free c.in_ok-flows.ensures (none_second lost_free c.in_ok-lost.ensures c.in_err-resets.ensures)))))
 
 pub returns : goal.returns
 returns c =

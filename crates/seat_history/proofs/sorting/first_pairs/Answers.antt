@@ -9,6 +9,7 @@ returns-clause-pairs c =
     let sorted : Pairs = c.args.sorted.now in
     let all : c.loop-pair.pairs.items ≡ firsts None sorted =
     sym (append-nil c.loop-pair.pairs.items)
-    ∙ (ap (λ (left : Pairs). c.loop-pair.pairs.items ++ firsts c.loop-pair.last left) (sym (drop_all c.loop-pair.pair-index sorted (let end = c.loop-pair-test.false in let e = c.loop-pair.auto.pair-index-end in omega arith)))
+    ∙ (ap (λ (left : Pairs). c.loop-pair.pairs.items ++ firsts c.loop-pair.last left)
+    (sym (drop_all c.loop-pair.pair-index sorted (let end = c.loop-pair-test.false in let e = c.loop-pair.auto.pair-index-end in omega arith)))
     ∙ c.loop-pair.invariant.whole) in
     subst (λ pairs. ArePairsOf (value_in sorted) pairs) (sym all) (firsts_are_pairs sorted c.requires)
