@@ -2,4 +2,4 @@ use Rattle.big_atomic.proofs.Stopping.{HasRead}
 use Rattle.big_atomic.proofs.tests.stops.read_until.Given as goal
 
 abbrev pub invariant-loop-j : goal.invariant-loop-j
-invariant-loop-j l = HasRead l.shared l.j l.seat
+invariant-loop-j l = HasRead l.shared 0 l.j l.seat

@@ -2,4 +2,4 @@ use Rattle.big_atomic.proofs.Stopping.{HasCopied}
 use Rattle.big_atomic.proofs.tests.stops.refresh_until.Given as goal
 
 abbrev pub invariant-loop-j : goal.invariant-loop-j
-invariant-loop-j l = HasCopied l.shared l.node l.version l.j l.seat
+invariant-loop-j l = HasCopied l.shared 0 l.node l.version l.j l.seat
