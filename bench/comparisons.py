@@ -69,6 +69,7 @@ def register_forms(folder: str, asked: argparse.Namespace) -> dict[str, list[str
         "spin lock": [other, "spin"],
         "seqlock": [other, "seqlock"],
         "`std::atomic`": [other, "atomic"],
+        "one's own": [other, "own"],
     }
 
 

@@ -1,14 +1,21 @@
 // The calls of `register_speed` on registers of the forms that a user would take instead.
 //   g++ -O2 -std=c++17 -pthread -o other_registers other_registers.cpp -latomic
-//   other_registers mutex|spin|seqlock|atomic [time] THREADS REGISTERS CALLS SHARE load|store|few|mix [FILE]
-// SHARE is not looked at. The line is that of `registers`.
+//   other_registers mutex|spin|seqlock|atomic|own [time] THREADS REGISTERS CALLS SHARE load|store|few|mix [FILE]
+// SHARE is not looked at. The line is that of `registers`. With `own` each thread has registers of its own.
 #include "other_registers.h"
+#include <deque>
 
-constexpr const char *USAGE = "other_registers mutex|spin|seqlock|atomic [time] THREADS REGISTERS CALLS SHARE load|store|few|mix [FILE]";
+constexpr const char *USAGE = "other_registers mutex|spin|seqlock|atomic|own [time] THREADS REGISTERS CALLS SHARE load|store|few|mix [FILE]";
 
 template <class Registers> void run(const RegistersAsked &asked, const char *kind, bool timed) {
     Registers registers(asked.registers);
     work_beside_a_thread([&] { run_registers(asked, kind, timed, [&](uint32_t) { return CallerOfRegisters<Registers>(registers); }); });
+}
+
+void run_apart(const RegistersAsked &asked, const char *kind, bool timed) {
+    std::deque<OwnRegisters> registers;
+    for (uint32_t thread = 0; thread < asked.threads; thread++) registers.emplace_back(asked.registers);
+    work_beside_a_thread([&] { run_registers(asked, kind, timed, [&](uint32_t thread) { return CallerOfRegisters<OwnRegisters>(registers[thread]); }); });
 }
 
 int main(int argc, char **argv) {
@@ -26,6 +33,8 @@ int main(int argc, char **argv) {
         run<SeqlockRegisters>(*asked, kind, timed);
     } else if (form == "atomic") {
         run<AtomicRegisters>(*asked, kind, timed);
+    } else if (form == "own") {
+        run_apart(*asked, kind, timed);
     } else {
         printf("%s\n", USAGE);
     }

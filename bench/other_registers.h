@@ -138,6 +138,34 @@ private:
     std::vector<Cell> cells;
 };
 
+// Registers that one thread alone calls: no form that several threads call can grow more than copies of these, so they show what the machine leaves.
+class OwnRegisters {
+public:
+    explicit OwnRegisters(uint32_t count) : cells(count) {}
+
+    Rec load(uint32_t reg) {
+        Rec record;
+        for (size_t j = 0; j < WIDTH; j++) record[j] = cells[reg].words[j].load(std::memory_order_relaxed);
+        return record;
+    }
+
+    void store(uint32_t reg, const Rec &record) {
+        for (size_t j = 0; j < WIDTH; j++) cells[reg].words[j].store(record[j], std::memory_order_relaxed);
+    }
+
+    bool compare_and_swap(uint32_t reg, const Rec &old, const Rec &record) {
+        if (load(reg) != old) return false;
+        store(reg, record);
+        return true;
+    }
+
+private:
+    struct alignas(LINE) Cell {
+        std::array<std::atomic<uint64_t>, WIDTH> words{};
+    };
+    std::vector<Cell> cells;
+};
+
 // A thread's calls on such registers. Each store counts as a change.
 template <class Registers> class CallerOfRegisters {
 public:

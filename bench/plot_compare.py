@@ -20,6 +20,7 @@ FORMS = {
         Form("spin lock", "#2e8b57"),
         Form("seqlock", "#8a4fbe"),
         Form("`std::atomic`", "#b8a000", "2 3"),
+        Form("one's own", "#000000", "1 4"),
     ],
     "keys": [
         Form("proved", "#1f5fa8"),
