@@ -7,3 +7,4 @@ pub use Rattle.cache_hash.proofs.KeySums.{key_counts, key_sums, seats_counted, s
 pub use Rattle.cache_hash.proofs.LaterPlaces.{found_is_known, late_insert_stands_later, late_replace_stands_later}
 pub use Rattle.cache_hash.proofs.Room.{no_call_is_full, no_change_is_full, nodes_stay_left, unused_has_nodes, unused_is_never_short, update_fits}
 pub use Rattle.cache_hash.proofs.UpdateSums.{update_adds, update_counts}
+pub use Rattle.step_rules.proofs.Numbers.Sets.{length-count_up}

@@ -12,3 +12,4 @@ pub use Rattle.seat_history.specs.Pairs.{ArePairsOf, Pairs, value_in}
 pub use Rattle.seat_history.specs.declared.call.Call.TheVariants.{Find, Insert, Remove, Replace}
 pub use Rattle.seat_history.specs.declared.key.KeyWords.{KeyWords}
 pub use Rattle.seat_history.specs.declared.reply.Reply.TheVariants.{Absent, Done, Found, Full, Gone, Present, Val, Yes}
+pub use Rattle.step_rules.specs.Views.{count_up}

@@ -2,22 +2,12 @@
 use Rattle.std.proofs.Common.{◌≡◌, ◌∙◌, ℕ, ◌+◌, ◌*◌, ◌^◌, ◌<◌, ◌≤◌, true, List, [], ◌∷◌, ◌++◌, All, Option, Some, None, cond, length, length-append, sym, ap, subst, arith, slice_index_or}
 use Rattle.std.specs.List.{remove}
 use Rattle.std.proofs.lemmas.List.Elements.{All-nil}
-use Rattle.big_atomic.proofs.Counting.{count_push}
-use Rattle.big_atomic.proofs.Sharing.{ready_quiet}
-use Rattle.big_atomic.specs.Registers.{end_of}
-use Rattle.big_atomic.specs.Seats.{AreLed, IsQuietOf, IsUnused, all_stands}
-use Rattle.cache_hash.proofs.KeySums.{key_counts, seats_counted, seats_only}
-use Rattle.cache_hash.proofs.Room.{unused_is_never_short}
-use Rattle.cache_hash.specs.Room.{Fits, HasRoom, IsNeverShort}
-use Rattle.cache_hash.specs.Sums.{CountsKeys, CountsMore, IsCount, OnlyCount, times_counted}
+use Rattle.cache_hash.proofs.Prelude.{count_push, key_counts, ready_quiet, seats_counted, seats_only, unused_is_never_short}
+use Rattle.cache_hash.specs.Prelude.{AreLed, ArePairsOf, ClosedData, CountsKeys, CountsMore, Fits, HasRoom, IsClosed, IsCount, IsNeverShort, IsQuietOf, IsSeat, IsUnused}
+use Rattle.cache_hash.specs.Prelude.{KeyWords, ObjectData, OnlyCount, Pairs, SeatData, Stand, all_stands, end_of, times_counted}
 use Rattle.cache_hash.specs.declared.answers.Update.TheVariants.{Done}
-use Rattle.seat_history.specs.Pairs.{ArePairsOf, Pairs}
-use Rattle.seat_history.specs.declared.key.KeyWords.{KeyWords}
 use Rattle.std.proofs.Math.Nat.{mul-le-mul_right}
 use Rattle.std.proofs.lemmas.List.Sums.{count_by-le-length}
-use Rattle.step_rules.specs.Closing.{ClosedData, IsClosed}
-use Rattle.step_rules.specs.SeatData.{IsSeat, ObjectData, SeatData}
-use Rattle.step_rules.specs.declared.view.Stand.{Stand}
 use Rattle.visit_counter.specs.Visits.{AreTotals, HasVisited, IsTotal, is_page, times_listed, visits}
 
 quiet_of : (shared : ObjectData) (seat : SeatData) → IsNeverShort shared seat → IsQuietOf shared seat

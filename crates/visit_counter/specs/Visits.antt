@@ -1,12 +1,6 @@
 -- What the visitors count, and what comes of it.
 use Rattle.std.specs.Prelude.{◌≡◌, ℕ, ◌+◌, ◌*◌, ◌<◌, ◌≤◌, ◌==◌, Bool, List, Option, Some, None, count_by, length, slice_index}
-use Rattle.big_atomic.specs.Seats.{IsQuietOf}
-use Rattle.cache_hash.specs.Room.{IsNeverShort}
-use Rattle.cache_hash.specs.Sums.{OnlyCount, times_counted}
-use Rattle.seat_history.specs.Key.{key_number}
-use Rattle.seat_history.specs.Pairs.{Pairs, value_in}
-use Rattle.seat_history.specs.declared.key.KeyWords.{KeyWords}
-use Rattle.step_rules.specs.SeatData.{ObjectData, SeatData}
+use Rattle.cache_hash.specs.Prelude.{IsNeverShort, IsQuietOf, KeyWords, ObjectData, OnlyCount, Pairs, SeatData, key_number, times_counted, value_in}
 
 -- the visits in a value
 abbrev pub visits : List ℕ → ℕ

@@ -1,9 +1,6 @@
 //! The whole count: a seat for each visitor, their visits, and what the closed table holds.
 ghost use Rattle.std.specs.Prelude.{◌≡◌, ◌<◌, ◌≤◌, ◌^◌, All, IfOk, IfSome, length};
-ghost use Rattle.big_atomic.specs.Seats.{AreBack, AreLed, IsUnused, Stays, all_numbers};
-ghost use Rattle.cache_hash.specs.Room.{HasRoom};
-ghost use Rattle.step_rules.specs.Layout.{IsPlan};
-ghost use Rattle.step_rules.specs.Views.{count_up};
+ghost use Rattle.cache_hash.specs.Prelude.{AreBack, AreLed, HasRoom, IsPlan, IsUnused, Stays, all_numbers, count_up};
 ghost use Rattle.visit_counter.specs.Visits.{AreTotals, HasVisited};
 
 use crate::visits::visit_all;

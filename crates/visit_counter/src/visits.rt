@@ -1,9 +1,6 @@
 //! What one visitor does: a visit of each page.
 ghost use Rattle.std.specs.Prelude.{◌≡◌, ◌<◌, ◌≤◌, ◌++◌, ◌∷◌, [], List, length};
-ghost use Rattle.big_atomic.specs.Seats.{IsUnused, Stays};
-ghost use Rattle.cache_hash.specs.Room.{HasRoom, IsNeverShort};
-ghost use Rattle.cache_hash.specs.Sums.{PutsOneMore};
-ghost use Rattle.seat_history.specs.declared.key.KeyWords.{KeyWords as Page};
+ghost use Rattle.cache_hash.specs.Prelude.{HasRoom, IsNeverShort, IsUnused, KeyWords as Page, PutsOneMore, Stays};
 ghost use Rattle.visit_counter.specs.Visits.{HasVisited, visits};
 
 use cache_hash::{KeyWords, Seat, Shared, Update, VALUE_WIDTH, ValWords, update};

@@ -1,8 +1,6 @@
 use Rattle.std.proofs.Common.{◌∙◌, ap, length, sym}
-use Rattle.big_atomic.proofs.SeatNumbers.{built_numbers, split_numbers}
-use Rattle.step_rules.proofs.Numbers.Sets.{length-count_up}
-use Rattle.step_rules.specs.Views.{count_up}
-use Rattle.step_rules.specs.declared.plan.Plan.{Plan}
+use Rattle.cache_hash.proofs.Prelude.{built_numbers, length-count_up, split_numbers}
+use Rattle.cache_hash.specs.Prelude.{Plan, count_up}
 use Rattle.visit_counter.proofs.session.run.Goals as goal
 
 pub totals-requires-clause-whole : goal.totals-requires-clause-whole

@@ -1,7 +1,7 @@
 use Rattle.std.proofs.Common.{◌∙◌, IfSome, IfOk, Ok, Err, Result, ap, length, subst, sym}
 use Rattle.std.specs.Result.{result_ok}
-use Rattle.big_atomic.specs.Seats.{all_numbers, all_stands}
-use Rattle.step_rules.proofs.Numbers.Sets.{length-count_up}
+use Rattle.cache_hash.proofs.Prelude.{length-count_up}
+use Rattle.cache_hash.specs.Prelude.{all_numbers, all_stands}
 use Rattle.visit_counter.proofs.Seats.{split_first, totals}
 use Rattle.visit_counter.specs.Visits.{AreTotals}
 use Rattle.visit_counter.proofs.session.totals.Goals as goal

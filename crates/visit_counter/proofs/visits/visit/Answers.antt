@@ -1,6 +1,5 @@
 use Rattle.std.proofs.Common.{refl, rules}
-use Rattle.cache_hash.proofs.Room.{update_fits}
-use Rattle.cache_hash.proofs.UpdateSums.{update_counts}
+use Rattle.cache_hash.proofs.Prelude.{update_counts, update_fits}
 use Rattle.cache_hash.specs.declared.answers.Update.TheVariants.{Done, Full}
 use Rattle.visit_counter.proofs.Seats.{visited_more}
 use Rattle.visit_counter.specs.Visits.{visits}

@@ -1,6 +1,6 @@
 use Rattle.std.proofs.Common.{◌∙◌, refl, subst, sym}
 use Rattle.std.proofs.lemmas.List.{take_all, take_more}
-use Rattle.seat_history.specs.declared.key.KeyWords.{KeyWords}
+use Rattle.cache_hash.specs.Prelude.{KeyWords}
 use Rattle.visit_counter.proofs.Seats.{none_visited}
 use Rattle.visit_counter.specs.Visits.{HasVisited}
 use Rattle.visit_counter.proofs.visits.visit_all.Goals as goal

@@ -1,5 +1,5 @@
 use Rattle.std.proofs.Common.{take}
-use Rattle.big_atomic.specs.Seats.{Stays}
+use Rattle.cache_hash.specs.Prelude.{Stays}
 use Rattle.visit_counter.specs.Visits.{HasVisited}
 use Rattle.visit_counter.proofs.visits.visit_all.Given as goal
 
