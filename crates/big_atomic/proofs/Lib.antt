@@ -31,7 +31,7 @@ pub mod Scanning
 pub mod SeatNumbers
 pub mod Sharing
 pub mod Shortage
-mod Stopping
+pub mod Stopping
 pub mod Sums
 pub mod Unlike
 pub mod Versioned
