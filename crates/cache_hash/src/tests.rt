@@ -4,8 +4,10 @@ ghost use Rattle.big_atomic.specs.Ready.{IsReady};
 ghost use Rattle.step_rules.specs.Layout.{IsPlan};
 ghost use Rattle.step_rules.specs.SeatData.{IsOf};
 
+mod dropped;
 mod scripts;
 mod small_shares;
+mod stops;
 mod threads;
 mod updates;
 mod watchers;

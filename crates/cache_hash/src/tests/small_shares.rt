@@ -10,7 +10,12 @@ use std::process::Abort;
 use std::test::Fail;
 
 // Cuts a fresh seat in two.
-fn split(rt: &impl Abort, alloc: Global, shared: &Shared, seat: &mut Seat) -> Result<Seat, Fail>
+pub(super) fn split(
+    rt: &impl Abort,
+    alloc: Global,
+    shared: &Shared,
+    seat: &mut Seat,
+) -> Result<Seat, Fail>
     requires ready { IsReady shared.now seat.old }
     ensures ready { IfOk result (λ _. IsReady shared.now seat.new) }
     ensures made { IfOk result (λ made. IsReady shared.now made) }
