@@ -6,7 +6,7 @@ use Rattle.big_atomic.specs.Calls.{Answered}
 use Rattle.big_atomic.specs.Ready.{IsReady}
 use Rattle.big_atomic.specs.Seats.{IsUnused}
 use Rattle.cache_hash.specs.Calls.{IsChangeAmong, IsKeyChange, IsUpdated, is_updated, update_call, update_reply}
-use Rattle.cache_hash.specs.Room.{Fits, HasNodesLeft, HasRoom, IsNeverShort, IsNotFull}
+use Rattle.cache_hash.specs.Room.{CallFits, Fits, HasNodesLeft, HasRoom, IsNeverShort, IsNotFull}
 use Rattle.cache_hash.specs.declared.answers.Update.{Update as UpdateAnswer}
 use Rattle.seat_history.specs.Contents.{zeros}
 use Rattle.seat_history.specs.declared.call.Call.{Call}
@@ -135,21 +135,34 @@ spent_one s = by_test s.changes
     by_test true = omega arith
     by_test false = omega arith
 
-pub update_fits : {gives : Option (List ℕ) → List ℕ → Type 0} (shared : ObjectData) (key : KeyWords) (answer : UpdateAnswer) (before after : SeatData) → IsNeverShort shared before
-    → IsReady shared after → IsUpdated key gives answer before after → Fits shared answer before after
-update_fits shared key answer before after fits ready e =
-    let call : Call = update_call key e.found e.val in
-    let a = e.change.answered in
+-- whatever the call may have been to make
+fits_among : {due : Call → Type 0} (shared : ObjectData) (call : Call) (reply : Reply) (changed : Bool) (before after : SeatData) → IsNeverShort shared before
+    → IsReady shared after → IsChangeAmong due call reply changed before after → CallFits shared reply before after
+fits_among shared call reply changed before after fits ready e =
+    let a = e.answered in
     let spends = a.stood.changes in
     let most = spent_one a.stand in record {
-      not_full = λ need free is.
-          no_change_is_full shared call (update_reply answer) (is_updated e.val answer) before after fits.room fits.ready fits.nodes e.change need free (ap update_reply is);
+      not_full = no_change_is_full shared call reply changed before after fits.room fits.ready fits.nodes e;
       never_short = record {
         ready = ready;
-        none_held = none_after e.change.hold fits.none_held;
+        none_held = none_after e.hold fits.none_held;
         room = fits.room;
-        nodes = nodes_stay_left shared _ call (update_reply answer) before after fits.ready ready fits.nodes a;
+        nodes = nodes_stay_left shared _ call reply before after fits.ready ready fits.nodes a;
       };
       spends = omega (arith, spends, most);
       stays = (answered_more a).stays;
+    }
+
+pub change_fits : (shared : ObjectData) (call : Call) (reply : Reply) (changed : Bool) (before after : SeatData) → IsNeverShort shared before → IsReady shared after
+    → IsKeyChange call reply changed before after → CallFits shared reply before after
+change_fits shared call = fits_among {due = λ other. other ≡ call} shared call
+
+pub update_fits : {gives : Option (List ℕ) → List ℕ → Type 0} (shared : ObjectData) (key : KeyWords) (answer : UpdateAnswer) (before after : SeatData) → IsNeverShort shared before
+    → IsReady shared after → IsUpdated key gives answer before after → Fits shared answer before after
+update_fits shared key answer before after fits ready e =
+    let f = fits_among shared (update_call key e.found e.val) (update_reply answer) (is_updated e.val answer) before after fits ready e.change in record {
+      not_full = λ need free is. f.not_full need free (ap update_reply is);
+      never_short = f.never_short;
+      spends = f.spends;
+      stays = f.stays;
     }

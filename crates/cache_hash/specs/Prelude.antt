@@ -5,7 +5,7 @@ pub use Rattle.big_atomic.specs.Prelude.{ObjectData, Plan, Reply, SeatData, Stan
 pub use Rattle.cache_hash.specs.Calls.{IsFound, IsInserted, IsKeyChange, IsRemoved, IsReplaced, IsUpdated, find_reply, insert_reply, is_done, is_replaced, replaced_reply, value_at}
 pub use Rattle.cache_hash.specs.Keys.{HasFewKeys, NotFull, OnlyPuts}
 pub use Rattle.cache_hash.specs.Places.{CameLateToInsert, CameLateToReplace, KnowsKey, StandsLater, last_place}
-pub use Rattle.cache_hash.specs.Room.{Fits, HasNodesLeft, HasRoom, IsNeverShort, IsNotFull}
+pub use Rattle.cache_hash.specs.Room.{CallFits, Fits, HasNodesLeft, HasRoom, IsNeverShort, IsNotFull}
 pub use Rattle.cache_hash.specs.Sums.{AddToKey, AddsToKey, CountsKeys, CountsMore, IsCount, IsSum, OnlyCount, PutsMore, PutsOneMore, amount_added, counted_once, tells_key, times_counted}
 pub use Rattle.seat_history.specs.Key.{key_number}
 pub use Rattle.seat_history.specs.Pairs.{ArePairsOf, Pairs, value_in}

@@ -29,6 +29,13 @@ pub record IsNeverShort (shared : ObjectData) (seat : SeatData) : Type 0 where
   pub room : HasRoom shared.plan
   pub nodes : HasNodesLeft shared seat
 
+-- a call on a key that isn't Full, spends a change at most, and leaves the seat such a one
+pub record CallFits (shared : ObjectData) (reply : Reply) (before after : SeatData) : Type 0 where
+  pub not_full : IsNotFull reply
+  pub never_short : IsNeverShort shared after
+  pub spends : before.view.changes ≤ after.view.changes + 1
+  pub stays : Stays before after
+
 -- an update that isn't Full, spends a change at most, and leaves the seat such a one
 pub record Fits (shared : ObjectData) (answer : UpdateAnswer) (before after : SeatData) : Type 0 where
   pub not_full : (need free : ℕ) → answer ≢ UpdateFull need free

@@ -9,7 +9,7 @@ ghost use Rattle.big_atomic.specs.Sums.{Adding, Shows};
 ghost use Rattle.cache_hash.specs.Calls.{IsFound, IsInserted, IsKeyChange, IsReplaced, IsUpdated};
 ghost use Rattle.cache_hash.specs.Keys.{HasFewKeys, NotFull, OnlyPuts};
 ghost use Rattle.cache_hash.specs.Places.{CameLateToInsert, CameLateToReplace, KnowsKey};
-ghost use Rattle.cache_hash.specs.Room.{Fits, HasNodesLeft, HasRoom, IsNeverShort, IsNotFull};
+ghost use Rattle.cache_hash.specs.Room.{CallFits, Fits, HasNodesLeft, HasRoom, IsNeverShort, IsNotFull};
 ghost use Rattle.cache_hash.specs.Sums.{AddToKey, CountsKeys, CountsMore, IsCount, IsSum, PutsMore, PutsOneMore, amount_added, times_counted};
 ghost use Rattle.cache_hash.specs.declared.answers.Insert.{Insert as InsertAnswer};
 ghost use Rattle.cache_hash.specs.declared.answers.Replace.{Replace as ReplaceAnswer};
@@ -83,6 +83,12 @@ pub fn key_counts()
 /// Where a share has room for all changes, no call of a seat is Full that made no call yet.
 pub fn unused_is_never_short()
     ensures { (shared : ObjectData) (seat : SeatData) → HasRoom shared.plan → IsUnused shared seat → IsNeverShort shared seat }
+{}
+
+/// An insert, a replace or a remove is never Full to such a seat, and leaves it such a one.
+pub fn change_fits()
+    ensures { (shared : ObjectData) (call : Call) (reply : Reply) (changed : Bool) (before after : SeatData) → IsNeverShort shared before → IsReady shared after
+        → IsKeyChange call reply changed before after → CallFits shared reply before after }
 {}
 
 /// An update by any function is never Full to such a seat, and leaves it such a one.

@@ -22,9 +22,9 @@ pub use answers::{Insert, Remove, Replace, Update};
 pub use finds::find;
 pub use inserts::insert;
 pub use laws::{
-    few_keys_none_full, found_is_known, key_counts, key_sums, late_insert_stands_later,
-    late_replace_stands_later, no_call_is_full, nodes_stay_left, unused_has_nodes,
-    unused_is_never_short, update_adds, update_counts, update_fits,
+    change_fits, few_keys_none_full, found_is_known, key_counts, key_sums,
+    late_insert_stands_later, late_replace_stands_later, no_call_is_full, nodes_stay_left,
+    unused_has_nodes, unused_is_never_short, update_adds, update_counts, update_fits,
 };
 pub use removes::remove;
 pub use replaces::replace;
