@@ -1,26 +1,30 @@
 -- A worker of a tally, between its draws.
-use Rattle.std.proofs.Common.{◌≡◌, ◌∙◌, ℕ, ◌+◌, ◌<◌, ◌≤◌, ◌^◌, suc, All, Bool, true, false, not, List, [], ◌∷◌}
+use Rattle.std.proofs.Common.{◌≡◌, ◌∙◌, ℕ, ◌+◌, ◌-◌, ◌<◌, ◌≤◌, ◌^◌, All, Bool, true, false, not, List, [], ◌∷◌}
 use Rattle.std.proofs.Common.{◌++◌, Option, Some, None, append-nil, length, length-append, slice_index_or, take, vec_capacity, Vec, refl, sym, ap, subst, arith}
+use Rattle.std.specs.List.{AllZip}
 use Rattle.std.specs.declared.alloc.Global.{Global}
+use Rattle.std.proofs.Math.Seq.{take-append-add}
 use Rattle.std.proofs.lemmas.Grind.{flat_map-append}
 use Rattle.std.proofs.lemmas.List.Elements.{All-from_get_or, All-from_recursion}
-use Rattle.std.proofs.lemmas.List.{take_all}
+use Rattle.std.proofs.lemmas.List.{length-take-le, take-take, take_all}
 use Rattle.big_atomic.proofs.Sharing.{ready_quiet}
 use Rattle.flow_fold.specs.Flows.{Flows}
 use Rattle.step_rules.specs.SeatData.{ObjectData, SeatData}
 use Rattle.tally_core.proofs.Attempts.{unused_adding}
 use Rattle.tally_core.proofs.Batches.{few_drawn}
-use Rattle.tally_core.specs.Adding.{HasAdded}
-use Rattle.tally_core.specs.Attempts.{AreUpdates, HasAddedFirst, IsAdding}
+use Rattle.tally_core.specs.Adding.{Adds, AreInRange, HasAdded, adding_in}
+use Rattle.tally_core.specs.Attempts.{AreUpdates, HasAddedFirst, IsAdding, added_of}
 use Rattle.tally_core.specs.Drawing.{AreBatchesOf, Drawer, HasBegun, HasDrawn, HasWorked, IsDrawing, TellsDrawn}
 use Rattle.tally_core.specs.Draws.{batch_of, batches_of, drawn_pairs}
 use Rattle.tally_core.specs.Workers.{IsDone}
 use Rattle.worker_gate.specs.Numbers.{AtMostOnce}
+use Rattle.worker_gate.specs.Rule.{one_if}
 use Rattle.worker_gate.specs.Seats.{BatchSeatData, BatchesData, Draws, IsBatchOf, IsBatchSeat}
 use Rattle.worker_gate.specs.declared.view.BatchPlan.{BatchPlan}
 
 -- before its first draw
-pub begun : {shared : ObjectData} {batches : BatchesData} {pairs : Flows} {one : Drawer} → HasBegun shared batches one → 0 < shared.plan.buckets → IsDrawing shared batches pairs one
+pub begun : {shared : ObjectData} {batches : BatchesData} {pairs : Flows} {one : Drawer} → HasBegun shared batches one → 0 < shared.plan.buckets
+    → IsDrawing shared batches pairs one
 begun {shared} {batches} {pairs} {one} h some = record {
   tells = h.no_draw.tells;
   room = h.no_draw.room;
@@ -32,18 +36,40 @@ begun {shared} {batches} {pairs} {one} h some = record {
 pub few_draws : {batches : BatchesData} {one : Drawer} → TellsDrawn batches one → length one.told.drawn.items ≤ batches.plan.count
 few_draws tells = omega (arith, ap length tells.drawn, tells.seat.law.lawful.few, ap (λ (p : BatchPlan). p.count) tells.seat.ours.plan)
 
-pub few_turns : {pairs : Flows} {workers : ℕ} {batches : BatchesData} {one : Drawer} → TellsDrawn batches one → AreBatchesOf pairs workers batches → length pairs ≤ 2 ^ 23
-    → length one.told.drawn.items < 2 ^ 32
+pub few_turns : {pairs : Flows} {workers : ℕ} {batches : BatchesData} {one : Drawer} → TellsDrawn batches one → AreBatchesOf pairs workers batches
+    → length pairs ≤ 2 ^ 23 → length one.told.drawn.items < 2 ^ 32
 few_turns tells are few = omega (arith, few_draws tells, are.count, few)
 
--- the worker's stands add the first of these pairs, by one update each
+-- the worker's stands add the first of these pairs, by one update each, and one more is of the next pair where it is Full
 abbrev HasUpdated : Flows → SeatData → Bool → Type 0
-HasUpdated pairs seat full = (added : HasAdded pairs full seat.view.stands) × AreUpdates (take added.count pairs) full seat.view
+HasUpdated pairs seat full = (added : HasAdded pairs full seat.view.stands) × AreUpdates (take (added.count + one_if full) pairs) seat.view
 
-has_updated : {shared : ObjectData} (pairs : Flows) (full : Bool) (count : ℕ) {seat : SeatData} → count ≤ length pairs → IsAdding shared (take count pairs) full seat
-    → (full ≡ false → count ≡ length pairs) → HasUpdated pairs seat full
-has_updated pairs full count within is all =
-    (record { count = count; within = within; added = is.adds; in_range = is.in_range; calls = is.calls; all = all; ends = is.ends }, is.updates)
+added_first : (pairs : Flows) (full : Bool) (count : ℕ) → count + one_if full ≤ length pairs
+    → added_of (take (count + one_if full) pairs) full ≡ take count pairs
+added_first pairs false count within = let same : count + 0 ≡ count = omega arith in ap (λ n. take n pairs) same
+added_first pairs true count within =
+    let same : length (take (count + 1) pairs) - 1 ≡ count = omega (arith, length-take-le (count + 1) pairs within) in
+    ap (λ n. take n (take (count + 1) pairs)) same ∙ take-take count (count + 1) pairs (omega arith)
+
+first_within : (full : Bool) (count long : ℕ) → count + one_if full ≤ long → count ≤ long
+first_within true count long within = omega (arith, within)
+first_within false count long within = omega (arith, within)
+
+has_updated : {shared : ObjectData} (pairs : Flows) (full : Bool) (count : ℕ) {seat : SeatData} → count + one_if full ≤ length pairs
+    → IsAdding shared (take (count + one_if full) pairs) full seat → (full ≡ false → count ≡ length pairs) → HasUpdated pairs seat full
+has_updated pairs full count {seat} within is all =
+    let first = added_first pairs full count within in (
+      record {
+        count = count;
+        within = first_within full count (length pairs) within;
+        added = subst (λ (l : Flows). AllZip Adds l (adding_in seat.view.stands)) first is.adds;
+        in_range = subst AreInRange first is.in_range;
+        calls = is.calls;
+        all = all;
+        ends = is.ends;
+      },
+      is.updates,
+    )
 
 is_done : {shared : ObjectData} {added : Flows} {full : Bool} {seat : SeatData} → IsAdding shared added full seat → IsDone shared seat
 is_done {shared} {seat = seat} is = record { ours = is.ready.ours; law = is.ready.law; quiet = ready_quiet shared seat is.ready is.none_held }
@@ -57,11 +83,13 @@ pub record HasPlace (batches : BatchesData) (old : Drawer) (x : Option ℕ) (pla
 
 module _ {shared : ObjectData} {batches : BatchesData} {pairs : Flows} {old : Drawer} (was : IsDrawing shared batches pairs old) (place : BatchSeatData) where
   -- no batch was left
-  pub ended : HasPlace batches old None place → HasWorked shared batches pairs (record { seat = old.seat; told = record { batches = place; drawn = old.told.drawn; full = old.told.full } })
+  pub ended : HasPlace batches old None place
+      → HasWorked shared batches pairs (record { seat = old.seat; told = record { batches = place; drawn = old.told.drawn; full = old.told.full } })
   ended now =
       let all = drawn_pairs pairs old.told.drawn.items in
       let whole = subst (HasUpdated all old.seat) (sym was.not_full)
-      (has_updated all false (length all) (omega arith) (subst (λ (l : Flows). IsAdding shared l false old.seat) (sym (take_all (length all) all (omega arith))) was.adding) (λ _. refl)) in
+      (has_updated all false (length all) (omega arith)
+      (subst (λ (l : Flows). IsAdding shared l false old.seat) (sym (take_all (length all + 0) all (omega arith))) was.adding) (λ _. refl)) in
       record {
         done = is_done was.adding;
         one = was.adding.one;
@@ -93,7 +121,9 @@ module _ {shared : ObjectData} {batches : BatchesData} {pairs : Flows} {old : Dr
     )
 
     both : drawn_pairs pairs (old.told.drawn.items ++ x ∷ []) ≡ drawn_pairs pairs old.told.drawn.items ++ batch_of pairs x
-    both = flat_map-append (batch_of pairs) old.told.drawn.items (x ∷ []) ∙ ap (λ (l : Flows). drawn_pairs pairs old.told.drawn.items ++ l) (append-nil (batch_of pairs x))
+    both =
+        flat_map-append (batch_of pairs) old.told.drawn.items (x ∷ [])
+        ∙ ap (λ (l : Flows). drawn_pairs pairs old.told.drawn.items ++ l) (append-nil (batch_of pairs x))
 
     pub pairs_fit : length (drawn_pairs pairs old.told.drawn.items) + length (batch_of pairs x) ≤ length pairs
     pairs_fit =
@@ -106,16 +136,13 @@ module _ {shared : ObjectData} {batches : BatchesData} {pairs : Flows} {old : Dr
           length-append (drawn_pairs pairs old.told.drawn.items) (batch_of pairs x),
         )
 
-    take_behind : (a b : Flows) (n : ℕ) → take (length a + n) (a ++ b) ≡ a ++ take n b
-    take_behind [] b n = let e : 0 + n ≡ n = omega arith in ap (λ k. take k b) e
-    take_behind (y ∷ a) b n = let e : suc (length a) + n ≡ suc (length a + n) = omega arith in ap (λ k. take k (y ∷ (a ++ b))) e ∙ ap (λ (l : Flows). y ∷ l) (take_behind a b n)
-
     -- and its pairs were added, or some of them until one was Full
-    pub went_on : (on : Bool) (drawn : Vec ℕ Global) (seat : SeatData) → drawn.items ≡ old.told.drawn.items ++ x ∷ [] → vec_capacity drawn ≡ vec_capacity old.told.drawn
-        → HasAddedFirst shared (drawn_pairs pairs old.told.drawn.items) (batch_of pairs x) (not on) seat
+    pub went_on : (on : Bool) (drawn : Vec ℕ Global) (seat : SeatData) → drawn.items ≡ old.told.drawn.items ++ x ∷ []
+        → vec_capacity drawn ≡ vec_capacity old.told.drawn → HasAddedFirst shared (drawn_pairs pairs old.told.drawn.items) (batch_of pairs x) (not on) seat
         → HasDrawn shared batches pairs on old (record { seat = seat; told = record { batches = place; drawn = drawn; full = not on } })
     went_on true drawn seat pushed room first =
-        let whole : take first.count (batch_of pairs x) ≡ batch_of pairs x = take_all first.count (batch_of pairs x) (omega (arith, first.all refl)) in (
+        let whole : take (first.count + 0) (batch_of pairs x) ≡ batch_of pairs x =
+        take_all (first.count + 0) (batch_of pairs x) (omega (arith, first.all refl)) in (
           record {
             tells = record {
               seat = record { ours = now.ours; law = now.law; one = ap length now.numbers ∙ was.tells.seat.one };
@@ -132,9 +159,13 @@ module _ {shared : ObjectData} {batches : BatchesData} {pairs : Flows} {old : Dr
         let front = drawn_pairs pairs old.told.drawn.items in
         let all = front ++ batch_of pairs x in
         let same : all ≡ drawn_pairs pairs drawn.items = sym both ∙ ap (drawn_pairs pairs) (sym pushed) in
+        let within : first.count + 1 ≤ length (batch_of pairs x) = first.within in
+        let after : length front + (first.count + 1) ≡ length front + first.count + 1 = omega arith in
+        let tried : front ++ take (first.count + 1) (batch_of pairs x) ≡ take (length front + first.count + 1) all =
+        sym (take-append-add front (batch_of pairs x) (first.count + 1)) ∙ ap (λ n. take n all) after in
         let whole = subst (λ (l : Flows). HasUpdated l seat true) same
-        (has_updated all true (length front + first.count) (omega (arith, first.within, length-append front (batch_of pairs x)))
-        (subst (λ (l : Flows). IsAdding shared l true seat) (sym (take_behind front (batch_of pairs x) first.count)) first.adding)
+        (has_updated all true (length front + first.count) (omega (arith, within, length-append front (batch_of pairs x)))
+        (subst (λ (l : Flows). IsAdding shared l true seat) tried first.adding)
         (λ e. let h : true ≡ false = e in absurd cc)) in
         record {
           done = is_done first.adding;

@@ -1,5 +1,5 @@
 -- A worker of a tally, from its first draw to its last.
-use Rattle.std.specs.Prelude.{◌≡◌, ℕ, ◌<◌, ◌≤◌, Bool, true, false, List, [], flat_map, length, map, take, vec_capacity}
+use Rattle.std.specs.Prelude.{◌≡◌, ℕ, ◌+◌, ◌<◌, ◌≤◌, Bool, true, false, List, [], flat_map, length, map, take, vec_capacity}
 use Rattle.std.specs.List.{list_any}
 use Rattle.big_atomic.specs.Seats.{IsUnused}
 use Rattle.flow_fold.specs.Flows.{Flows}
@@ -12,6 +12,7 @@ use Rattle.tally_core.specs.Workers.{IsDone}
 use Rattle.tally_core.specs.declared.draws.Draw.{Draw}
 use Rattle.tally_core.specs.declared.worker.Part.{Part}
 use Rattle.tally_core.specs.declared.worker.Worker.{Worker}
+use Rattle.worker_gate.specs.Rule.{one_if}
 use Rattle.worker_gate.specs.Seats.{BatchSeatData, BatchesData, IsBatchOf, IsBatchSeat}
 
 -- a worker's seat, and its part of a tally
@@ -58,14 +59,15 @@ pub record IsDrawing (shared : ObjectData) (batches : BatchesData) (pairs : Flow
   pub adding : IsAdding shared (drawn_pairs pairs one.told.drawn.items) false one.seat
 
 -- a worker that has done: its stands add the pairs of the batches that it drew, in order, and it was told that there is none left; or its last
--- stand is Full, and it went no further. Each stand is of one update for its pair
+-- stand is Full, and it went no further. The stands are of one update for each of these pairs, in order: those added, and then the next one where
+-- the last stand is Full
 pub record HasWorked (shared : ObjectData) (batches : BatchesData) (pairs : Flows) (drawer : Drawer) : Type 0 where
   pub done : IsDone shared drawer.seat
   pub one : length drawer.seat.view.numbers ≡ 1
   pub tells : TellsDrawn batches drawer
   pub ended : drawer.told.full ≡ false → drawer.told.batches.view.ended ≡ true
   pub added : HasAdded (drawn_pairs pairs drawer.told.drawn.items) drawer.told.full drawer.seat.view.stands
-  pub updates : AreUpdates (take added.count (drawn_pairs pairs drawer.told.drawn.items)) drawer.told.full drawer.seat.view
+  pub updates : AreUpdates (take (added.count + one_if drawer.told.full) (drawn_pairs pairs drawer.told.drawn.items)) drawer.seat.view
 
 -- a batch was drawn and its pairs were added, or the worker has done
 abbrev pub HasDrawn : ObjectData → BatchesData → Flows → Bool → Drawer → Drawer → Type 0

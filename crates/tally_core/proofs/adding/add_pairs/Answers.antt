@@ -1,4 +1,4 @@
-use Rattle.std.proofs.Common.{◌≡◌, ◌∙◌, ◌++◌, ◌∷◌, [], append-nil, append_assoc, ap, arith, false, length, length-append, subst, sym, take, true}
+use Rattle.std.proofs.Common.{◌≡◌, ◌∙◌, ◌+◌, ◌++◌, ◌∷◌, [], append-nil, append_assoc, ap, arith, false, length, length-append, subst, sym, take, true}
 use Rattle.std.proofs.lemmas.List.{length-take, take_more}
 use Rattle.flow_fold.specs.Flows.{Flows}
 use Rattle.flow_fold.specs.declared.key.Key.{Key}
@@ -7,6 +7,9 @@ use Rattle.step_rules.specs.Layout.{IsPlan}
 use Rattle.tally_core.proofs.SeatStands.{stays_on}
 use Rattle.tally_core.specs.Attempts.{IsAdding}
 use Rattle.tally_core.proofs.adding.add_pairs.Goals as goal
+
+abbrev none : Key × Value
+none = (record { k0 = 0; k1 = 0 }, record { packets = 0; octets = 0; first = 0; last = 0; flags = 0 })
 
 pub loop-i-init : goal.loop-i-init
 loop-i-init c = record {
@@ -27,7 +30,6 @@ add_pair-requires c =
 
 pub loop-i-preserved : goal.loop-i-preserved
 loop-i-preserved c =
-    let none : Key × Value = (record { k0 = 0; k1 = 0 }, record { packets = 0; octets = 0; first = 0; last = 0; flags = 0 }) in
     let front = take c.loop-i.i c.args.pairs.now in record {
       adding = λ added was.
           subst (λ (l : Flows). IsAdding c.args.shared.now l false c.add_pair.new.seat)
@@ -39,18 +41,22 @@ loop-i-preserved c =
 pub returns-then-not-add_pair-clause-added : goal.returns-then-not-add_pair-clause-added
 returns-then-not-add_pair-clause-added c = λ added was. record {
   count = c.loop-i.i;
-  within = c.loop-i.auto.i-end;
+  within = omega (arith, c.loop-i-test.true);
   adding =
-      let front = added ++ take c.loop-i.i c.args.pairs.now in
-      c.if-not-add_pair.ensures.added front (c.reclaim_many.ensures.adding front (c.loop-i.invariant.adding added was));
+      let front = take c.loop-i.i c.args.pairs.now in
+      subst (λ (l : Flows). IsAdding c.args.shared.now l true c.add_pair.new.seat)
+      (append_assoc added front _ ∙ ap (λ (l : Flows). added ++ l) (sym (take_more c.args.pairs.now c.loop-i.i none c.loop-i-test.true)))
+      (c.if-not-add_pair.ensures.added (added ++ front) (c.reclaim_many.ensures.adding (added ++ front) (c.loop-i.invariant.adding added was)));
   all = λ e. let h : true ≡ false = e in absurd cc;
 }
 
 pub returns-clause-added : goal.returns-clause-added
 returns-clause-added c = λ added was. record {
   count = c.loop-i.i;
-  within = c.loop-i.auto.i-end;
-  adding = c.loop-i.invariant.adding added was;
+  within = omega (arith, c.loop-i.auto.i-end);
+  adding =
+      let same : c.loop-i.i ≡ c.loop-i.i + 0 = omega arith in
+      subst (λ n. IsAdding c.args.shared.now (added ++ take n c.args.pairs.now) false c.loop-i.seat) same (c.loop-i.invariant.adding added was);
   all = λ _. omega (arith, c.loop-i-test.false, c.loop-i.auto.i-end);
 }
 
