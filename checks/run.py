@@ -5,7 +5,8 @@ usage: checks/run.py [PROGRAM [PART..]]
 
 What a run must write comes from a fold, a generator and a plain object written here, apart from the program.
 Without PROGRAM it takes crates/flow_tally/out/flow_tally, which it has `rt run` build where it is missing, and
-which may not be older than its sources. The part `visits` takes crates/visit_counter/out/visit_counter so, always.
+which may not be older than its sources. The parts `visits` and `stock` take crates/visit_counter/out/visit_counter and
+crates/stock_room/out/stock_room so, always.
 It needs Python's own library alone, tells what it leaves out, and ends with status 1 where a check fails. PART is a
 name of PARTS; all are run where none is given.
 """
@@ -26,6 +27,7 @@ import recipes
 import refused_memory
 import regular
 import scripts
+import stock
 import stress
 import trials
 import visits
@@ -126,6 +128,7 @@ PARTS = {
     "refused_memory": refused_memory.refused_memory,
     "malformed": malformed.malformed,
     "visits": visits.visits,
+    "stock": stock.stock,
     "recipes": lambda checks: recipes.recipes(checks, TOP),
 }
 

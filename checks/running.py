@@ -14,7 +14,7 @@ USAGE = (
 
 
 # A program of a crate, and words with which `rt run` ends at once.
-PROGRAMS = {"flow_tally": ["tally", "data/one_record.nf5"], "visit_counter": ["4", "8", "7"]}
+PROGRAMS = {"flow_tally": ["tally", "data/one_record.nf5"], "visit_counter": ["4", "8", "7"], "stock_room": ["2", "7", "1", "5", "3", "5", "2"]}
 
 
 def newest_source() -> float:
