@@ -7,7 +7,7 @@ use Rattle.big_atomic.proofs.Deciding.{first_at, seen_idle, store_agrees, store_
 use Rattle.big_atomic.proofs.Goings.{calling_then}
 use Rattle.big_atomic.proofs.Marking.{turn_behind}
 use Rattle.big_atomic.proofs.Pacing.{paces_then}
-use Rattle.big_atomic.proofs.Paid.{exchanges-append, scan_loads-append}
+use Rattle.big_atomic.proofs.Paid.{exchanges-append, node_stores-append, scan_loads-append}
 use Rattle.big_atomic.proofs.Refusing.{changed_unlike}
 use Rattle.big_atomic.proofs.Versioned.{seen_begun}
 use Rattle.big_atomic.specs.Calling.{Began, Goes, HasSeen, HasStartedRecord, HasTried, tried_at}
@@ -66,6 +66,7 @@ module _ {shared : ObjectData} {reg : ℕ} (old new : List ℕ) {before : SeatDa
       record {
         at = swap_first t.0 (omega arith) t.1 (let none = t.2 in omega arith) law;
         idle = swap_idle t.0;
+        unfilled = t.0.none_filled;
         turn = record { loaded = record { front = []; saw = length before.view.seen; rest = t.0.steps; whole = refl; kept = t.2 }; looked = t.4 };
         claim = t.3;
       },
@@ -94,6 +95,7 @@ store_starts {shared = shared} {reg = reg} {rec = rec} {new = new} {before = bef
       record {
         at = first_at {b = b} h.0.0.0 (omega arith) refl (λ e. absurd (false≢true e)) law;
         carried = subst (λ (k : Option ℕ). Carries k new now) (sym none) (seen_idle began.ready.idle h.0.0.0);
+        unfilled = λ _. h.0.0.0.none_filled;
         turn = h.1;
         claim = h.0.0.1;
         there = h.0.1;
@@ -130,6 +132,7 @@ module _ {shared : ObjectData} {reg version word seen node : ℕ} {rec new : Lis
           own = ap (λ (y : Claim). y.word) (s.stays.others OWN (λ e. absurd (omega arith))) ∙ p.own;
           law = law;
           never = λ never. absurd (l.changes never);
+          filled = let filled = p.filled in let none = s.none_filled in omega (arith, node_stores-append p.steps s.steps);
           spent = λ once. absurd (false≢true (sym any ∙ once));
         };
         turn = inr (tried, omega (arith, ap (length {A = ℕ}) again_held.holding));
@@ -139,6 +142,7 @@ module _ {shared : ObjectData} {reg version word seen node : ℕ} {rec new : Lis
   store_again same = record {
     at = again_at;
     carried = subst (λ (k : Option ℕ). Carries k new now) (sym same) again_held;
+    unfilled = λ none. absurd (let e = sym same ∙ none in cc);
     turn = turn_behind l.at.past.steps s.steps h.1;
     claim = h.0.0.1;
     there = h.0.1;

@@ -9,10 +9,10 @@ use mathlib.Core.Option.{some}
 use lib.ListN.{get_elem?}
 use Rattle.big_atomic.proofs.Goings.{LooksAt, found_at_look, goes_look, goes_lost, goes_still, goes_then, looked_then, looks_at, moved_since}
 use Rattle.big_atomic.proofs.Pacing.{paces_still, paces_then}
-use Rattle.big_atomic.proofs.Paid.{AreStill, claim_stores-append, exchanges-append, scan_loads-append, still_exchanges}
+use Rattle.big_atomic.proofs.Paid.{AreStill, claim_stores-append, exchanges-append, node_stores-append, scan_loads-append, still_exchanges}
 use Rattle.big_atomic.specs.Calling.{AreLooks, Goes, HasClaim, HasClaimed, HasClaimedRecord, HasFound, HasRead, HasSeen, HasTried, HasTurned, LookedOnce, OnlySteps, Stays, TurnedOnce, turn_steps}
 use Rattle.big_atomic.specs.Calls.{register_at}
-use Rattle.big_atomic.specs.Turns.{claim_rounds, claim_stores, is_claim_round, lost_steps, scan_loads}
+use Rattle.big_atomic.specs.Turns.{claim_rounds, claim_stores, is_claim_round, lost_steps, node_stores, scan_loads}
 use Rattle.hazard_claims.proofs.Rechecking.{stands_told}
 use Rattle.hazard_claims.specs.Claiming.{IsAnnounced, Rechecked, claim_number}
 use Rattle.hazard_claims.specs.declared.claims.Claim.{Claim as Which}
@@ -204,6 +204,7 @@ seen_first c reg word before now f =
       };
       looks = record { none_exchanged = refl; none_scanned = refl };
       paced = record { rounds = omega arith; tries = omega arith };
+      none_filled = refl;
       stored = λ serves. absurd (omega arith);
       stays = f.1 c;
       found = f.2;
@@ -234,6 +235,7 @@ seen_further {c} {reg} {seen} {word} {claims} {before} {mid} {now} s t serves = 
   looked = looked_then (s.goes None) s.looked t.goes;
   looks = looks_then s.steps (turn_steps c reg seen word mid now) s.looks (record { none_exchanged = refl; none_scanned = refl });
   paced = paces_then {mid = 0} s.paced (let one = turn_round c reg seen word mid now in record { rounds = omega arith; tries = omega arith });
+  none_filled = let none = s.none_filled in omega (arith, node_stores-append s.steps (turn_steps c reg seen word mid now));
   stored = λ _. stored_behind s.steps (turn_steps c reg seen word mid now) (omega arith);
   stays = stays_then c before mid now s.stays t.stays;
   found = t.found;
@@ -289,6 +291,10 @@ pub loads_unscanned : (n j seen : ℕ) (ws : List ℕ) → scan_loads (load_step
 loads_unscanned n j seen [] = refl
 loads_unscanned n j seen (w ∷ ws) = loads_unscanned n (suc j) seen ws
 
+pub loads_unfilled : (n j seen : ℕ) (ws : List ℕ) → node_stores (load_steps n j ws seen) ≡ 0
+loads_unfilled n j seen [] = refl
+loads_unfilled n j seen (w ∷ ws) = loads_unfilled n (suc j) seen ws
+
 -- a node's words were read
 pub read_goes : (k node : ℕ) (words : List ℕ) (old new : SeatData) → IsRead node words old new → Sound new.view
     → Goes k (Some (length old.view.seen)) (load_steps node 0 words (length old.view.seen)) old new
@@ -336,6 +342,7 @@ claimed_read {c} {reg} {word} {rec} {before} {mid} {now} tells there h r sound =
           looked = looked_then g s.looked reads;
           looks = looks_then s.steps steps s.looks (record { none_exchanged = still_exchanges steps still; none_scanned = loads_unscanned (word / 2) 0 (length mid.view.seen) r.words });
           paced = paces_then s.paced (paces_still 1 steps still);
+          none_filled = let none = s.none_filled in omega (arith, node_stores-append s.steps steps, loads_unfilled (word / 2) 0 (length mid.view.seen) r.words);
           stored = λ serves. stored_before s.steps steps (s.stored serves);
           stays = stays_then c before mid now s.stays (record {
             same = only_stepped mid now same;

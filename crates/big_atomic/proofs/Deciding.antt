@@ -4,18 +4,18 @@ use Rattle.std.proofs.Common.{length, take, refl, sym, ap, subst, arith, inl, in
 use Rattle.std.proofs.lemmas.Bool.{and_parts, and_right}
 use Rattle.big_atomic.proofs.Answered.{EndsAs, MayEnd, clear_step, ended_as, right_at}
 use Rattle.big_atomic.proofs.Balance.{CostsNone, nodes_stay}
-use Rattle.big_atomic.proofs.Claimed.{claim_stays, loads_length, loads_still, loads_unscanned, looks_then, read_goes, record_read}
+use Rattle.big_atomic.proofs.Claimed.{claim_stays, loads_length, loads_still, loads_unfilled, loads_unscanned, looks_then, read_goes, record_read}
 use Rattle.big_atomic.proofs.Goings.{calling_then}
 use Rattle.big_atomic.proofs.Marking.{turn_more}
 use Rattle.big_atomic.proofs.Pacing.{paces_still, paces_then, paces_within}
-use Rattle.big_atomic.proofs.Paid.{costs_then, costs_within, exchanges-append, scan_loads-append, still_exchanges, still_lost}
-use Rattle.big_atomic.proofs.Scanning.{scan_all, scan_few, scan_goes, scan_lost, scan_paced, scan_seen, scan_tried, scan_view}
+use Rattle.big_atomic.proofs.Paid.{costs_then, costs_within, exchanges-append, node_stores-append, scan_loads-append, still_exchanges, still_lost}
+use Rattle.big_atomic.proofs.Scanning.{scan_all, scan_few, scan_goes, scan_lost, scan_paced, scan_seen, scan_tried, scan_unfilled, scan_view}
 use Rattle.big_atomic.specs.Calling.{Costs, HasClaim, HasRead, HasRoom, HasSeen, IsLooked}
 use Rattle.big_atomic.specs.Calls.{IsFirstUnlike, IsStored, IsSwapped, ScansForWant, register_at, store_reply, swap_reply}
 use Rattle.big_atomic.specs.Giving.{Agrees, AtTurn, Begun, Gives, HasClaimedNode, HasDecided, HasTold, OnlyLooked, Past}
 use Rattle.big_atomic.specs.Marks.{HasTurn}
 use Rattle.big_atomic.specs.Ready.{IsReady}
-use Rattle.big_atomic.specs.Turns.{exchanges}
+use Rattle.big_atomic.specs.Turns.{exchanges, node_stores}
 use Rattle.big_atomic.specs.declared.answers.Stored.{Stored}
 use Rattle.big_atomic.specs.declared.answers.Stored.TheVariants.{Done as StoreDone, Full as StoreFull}
 use Rattle.big_atomic.specs.declared.answers.Swap.{Swap as Answer}
@@ -93,6 +93,13 @@ swap_never reg old new same c = ap (λ (b : Bool). is_same (c.registers reg) old
 pub costs_none : {reg : ℕ} {new : List ℕ} {done : Reply} {call : Call} → Gives reg new done call → CostsNone call
 costs_none g rs = (ap (λ (e : Edit). cost_of (length rs) e) (g.edits rs), ap (λ (e : Edit). gain_of (length rs) e) (g.edits rs))
 
+-- the register has a record by which the call is to be decided, and no node is held any more
+pub record IsThere {shared : ObjectData} {reg : ℕ} {new : List ℕ} {done : Reply} {call : Call} (b : Begun shared reg new done call) (rec : List ℕ) (now : SeatData) : Type 0 where
+  pub at : AtTurn b 0 (WIDTH + 5) now
+  pub idle : now.holding ≡ []
+  pub there : register_at now.view (length now.view.seen) reg ≡ rec
+  pub agrees : Agrees reg rec new done call
+
 -- looks leave a seat idle
 pub seen_idle : {reg word claims : ℕ} {before now : SeatData} → before.holding ≡ [] → HasSeen BACK reg word claims before now → now.holding ≡ []
 seen_idle idle s = ap (λ (z : SeatData). z.holding) s.stays.same ∙ idle
@@ -116,6 +123,7 @@ module _ {shared : ObjectData} {reg : ℕ} {new : List ℕ} {done : Reply} {call
         own = ap (λ (y : Claim). y.word) (s.stays.others OWN (λ e. absurd (omega arith))) ∙ b.began.ready.own;
         law = law;
         never = λ _. s.looks.none_exchanged;
+        filled = let none = s.none_filled in omega arith;
         spent = spent;
       };
       turn = inl (record {
@@ -141,6 +149,7 @@ module _ {shared : ObjectData} {reg : ℕ} {new : List ℕ} {done : Reply} {call
       own = p.own;
       law = p.law;
       never = p.never;
+      filled = p.filled;
       spent = λ once. costs_within (p.spent once) low (omega arith) few;
     }
 
@@ -166,6 +175,9 @@ module _ {shared : ObjectData} {reg : ℕ} {new : List ℕ} {done : Reply} {call
       pub tried : exchanges (p.steps ++ loads) ≡ exchanges p.steps
       tried = let none = still_exchanges loads (loads_still (word / 2) 0 (length mid.view.seen) r.words) in omega (arith, exchanges-append p.steps loads)
 
+      pub read_unfilled : node_stores (p.steps ++ loads) ≡ 0
+      read_unfilled = let none = h.unfilled in omega (arith, node_stores-append p.steps loads, loads_unfilled (word / 2) 0 (length mid.view.seen) r.words)
+
       abbrev read_past : Past b 0 (WIDTH + 5) now
       read_past = record {
         steps = p.steps ++ loads;
@@ -178,6 +190,7 @@ module _ {shared : ObjectData} {reg : ℕ} {new : List ℕ} {done : Reply} {call
         own = ap (λ (z : View). (claim_of OWN z).word) read_view ∙ p.own;
         law = law;
         never = λ never. tried ∙ p.never never;
+        filled = omega (arith, read_unfilled);
         spent = λ once.
             let still = loads_still (word / 2) 0 (length mid.view.seen) r.words in
             costs_then loads (p.spent once) (still_lost loads still) (still_exchanges loads still) (omega (arith, wide, loads_length (word / 2) 0 (length mid.view.seen) r.words));
@@ -217,6 +230,7 @@ module _ {shared : ObjectData} {reg : ℕ} {new : List ℕ} {done : Reply} {call
       decided agrees = record {
         at = read_at;
         carried = read_idle;
+        unfilled = λ _. read_unfilled;
         turn = turn_more p.steps loads (still_lost loads (loads_still (word / 2) 0 (length mid.view.seen) r.words)) h.turn;
         claim = read_claim;
         there = read_there;
@@ -268,6 +282,7 @@ module _ {shared : ObjectData} {reg : ℕ} {new : List ℕ} {done : Reply} {call
                   t.turn);
               full = λ need free e. absurd (full need free e);
               never = λ never. ap exchanges a.steps_are ∙ (let none = p.never never in omega (arith, exchanges-append p.steps clear));
+              filled = let filled = p.filled in omega (arith, ap node_stores a.steps_are, node_stores-append p.steps clear);
               spent = λ tries. subst (λ (l : List Counted). Costs 1 2 (3 * NODE_WIDTH + 4 * b.before.view.plan.seats + 16) l) (sym a.steps_are)
                   (costs_then clear (costs_within (p.spent tries) once (omega arith) (let q : most ≤ most = omega arith in q)) refl refl (omega arith));
             },
@@ -275,11 +290,11 @@ module _ {shared : ObjectData} {reg : ℕ} {new : List ℕ} {done : Reply} {call
           )
 
     -- the record is there already
-    module _ {version word : ℕ} {rec : List ℕ} {now : SeatData} (d : HasDecided b version word rec None now) (same : is_same rec new ≡ true) where
+    module _ {rec : List ℕ} {now : SeatData} (d : IsThere b rec now) (same : is_same rec new ≡ true) where
       pub end_there : MayEnd reg b.look (length now.view.seen) call done d.at.past.steps b.before now
       end_there =
           let none : is_change (state_at now.view.seen (length now.view.seen)) call ≡ false = d.agrees.changes (state_at now.view.seen (length now.view.seen)) d.there ∙ ap not same in
-          tells d.at d.carried (length now.view.seen) done d.at.past.calling.looked.upto
+          tells d.at d.idle (length now.view.seen) done d.at.past.calling.looked.upto
           (right_at now.view (length now.view.seen) call done (omega arith) (legal_now d.at.past) (d.agrees.says now.view.plan (stock now.view)
           (state_at now.view.seen (length now.view.seen)) (take (length now.view.seen) now.view.seen)
           (held_by now.view.seen (number now.view) now.view.stands) d.there)
@@ -294,6 +309,7 @@ pub record HasRoomFor {shared : ObjectData} {reg : ℕ} {new : List ℕ} {done :
     (version word seen : ℕ) (now : SeatData) : Type 0 where
   pub past : Past b 0 (WIDTH + 6 + 4 * b.before.view.plan.seats) now
   pub idle : now.holding ≡ []
+  pub unfilled : node_stores past.steps ≡ 0
   pub turn : HasTurn reg version word past.steps
   pub claim : HasClaim BACK reg word now
   pub seen_is : length now.view.seen ≡ seen
@@ -317,6 +333,7 @@ module _ {shared : ObjectData} {reg : ℕ} {new : List ℕ} {done : Reply} {call
       record {
         past = past_within d.at.past (omega arith) (omega arith);
         idle = d.carried;
+        unfilled = d.unfilled refl;
         turn = d.turn;
         claim = d.claim;
         seen_is = refl;
@@ -333,6 +350,7 @@ module _ {shared : ObjectData} {reg : ℕ} {new : List ℕ} {done : Reply} {call
       let scan : List Counted = s.clear ++ s.loads in
       let seats : u.view.plan.seats ≡ b.before.view.plan.seats = ap (λ (z : View). z.plan.seats) p.calling.goes.only in
       let none_before = o.looks.none_scanned in
+      let unfilled : node_stores (p.steps ++ scan) ≡ 0 = omega (arith, node_stores-append p.steps scan, d.unfilled refl, scan_unfilled s p.law law) in
       let same : claim_of BACK w.view ≡ claim_of BACK u.view = s.claims BACK (λ e. absurd (omega arith)) in
       let seen : w.view.seen ≡ u.view.seen = scan_seen s p.law law in
       record {
@@ -348,9 +366,11 @@ module _ {shared : ObjectData} {reg : ℕ} {new : List ℕ} {done : Reply} {call
           own = ap (λ (y : Claim). y.word) (s.claims OWN (λ e. absurd (omega arith))) ∙ p.own;
           law = law;
           never = λ never. let none_tried = p.never never in omega (arith, exchanges-append p.steps scan, scan_tried s p.law law);
+          filled = omega arith;
           spent = λ once. costs_then scan (p.spent once) (scan_lost s p.law law) (scan_tried s p.law law) (omega (arith, scan_few s p.law law));
         };
         idle = ap (λ (z : SeatData). z.holding) s.same ∙ d.carried;
+        unfilled = unfilled;
         turn = turn_more p.steps scan (scan_lost s p.law law) d.turn;
         claim = record {
           stands = subst (λ (y : Claim). On y (word / 2)) (sym same) d.claim.stands;
@@ -381,6 +401,7 @@ stored {b} {after} answer t = (
     scans = t.scans;
     full = λ need free e. (t.full need free (ap store_reply e)).0;
     enough = enough answer t;
+    filled = t.filled;
   },
   t.ready,
 )
@@ -406,6 +427,7 @@ swapped {reg = reg} {old = old} {new = new} {b = b} answer t once unlike =
         twice = spent.tried_most;
         same = λ e. t.never (swap_never reg old new e);
         bound = spent.most;
+        filled = t.filled;
       },
       t.ready,
     )

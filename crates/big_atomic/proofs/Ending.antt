@@ -4,8 +4,8 @@ use Rattle.std.proofs.lemmas.Bool.{false≢true}
 use Rattle.std.proofs.lemmas.List.{get_or-set_other}
 use mathlib.Core.Option.{some, some-injective}
 use lib.ListN.{get_elem?}
-use Rattle.big_atomic.proofs.Paid.{AreStill, scan_loads-append, still-append}
-use Rattle.big_atomic.specs.Turns.{scan_loads}
+use Rattle.big_atomic.proofs.Paid.{AreStill, node_stores-append, scan_loads-append, still-append}
+use Rattle.big_atomic.specs.Turns.{node_stores, scan_loads}
 use Rattle.hazard_claims.specs.Claiming.{IsReleased, claim_number}
 use Rattle.hazard_claims.specs.Scanning.{ClearsWalk}
 use Rattle.hazard_claims.specs.declared.claims.Claim.{Claim as Which}
@@ -30,6 +30,7 @@ pub record EndsBy (clears : List Counted) (u w : SeatData) : Type 0 where
   pub seen : GoesOn u.view.seen w.view.seen
   pub still : AreStill clears
   pub none_scanned : scan_loads clears ≡ 0
+  pub none_filled : node_stores clears ≡ 0
   pub hold : claim_of HOLD w.view ≡ claim_of HOLD u.view
 
 pub cleared_word : (l : List Claim) (c : ℕ) → (get_or (set l c (silent 0)) c (silent 0)).word ≡ 0
@@ -78,6 +79,7 @@ ends_one which u w other is =
       seen = subst (λ (z : View). GoesOn u.view.seen z.seen) (sym view) (goes_on_same u.view.seen);
       still = refl;
       none_scanned = refl;
+      none_filled = refl;
       hold = released_else which u w HOLD is other;
     }
 
@@ -90,6 +92,7 @@ ends_none u w is = subst (λ (z : SeatData). EndsBy [] u z) (sym is) (record {
   seen = goes_on_same u.view.seen;
   still = refl;
   none_scanned = refl;
+  none_filled = refl;
   hold = refl;
 })
 
@@ -97,6 +100,8 @@ pub ends_then : {a b : List Counted} {u v w : SeatData} → EndsBy a u v → End
 ends_then {a} {b} {u} {v} {w} p q =
     let none = p.none_scanned in
     let none_then = q.none_scanned in
+    let unfilled = p.none_filled in
+    let unfilled_then = q.none_filled in
     record {
       object = q.object ∙ p.object;
       first = q.first ∙ p.first;
@@ -107,6 +112,7 @@ ends_then {a} {b} {u} {v} {w} p q =
       seen = goes_further u.view.seen v.view.seen w.view.seen q.seen.0 p.seen q.seen.1;
       still = still-append a b p.still q.still;
       none_scanned = omega (arith, scan_loads-append a b);
+      none_filled = omega (arith, node_stores-append a b);
       hold = q.hold ∙ p.hold;
     }
 

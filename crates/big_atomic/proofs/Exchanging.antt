@@ -99,7 +99,7 @@ won_first {reg} {word} {u} first last won = record {
   tries = [];
   mid = u;
   found = word;
-  retried = record { goes = goes_none reg u first; none_lost = refl; none_claimed = refl; none_scanned = refl; few = omega arith; view = refl; same = refl };
+  retried = record { goes = goes_none reg u first; none_lost = refl; none_claimed = refl; none_scanned = refl; none_filled = refl; few = omega arith; view = refl; same = refl };
   near = refl;
   won = won;
   sound = last;
@@ -116,6 +116,7 @@ lost_first {reg} {u} {w} first last found far sees =
       paced = record { rounds = omega arith; tries = omega arith };
       some_tried = omega arith;
       none_scanned = refl;
+      none_filled = refl;
       few = omega arith;
       view = tried_only sees;
       same = sees.same;
@@ -151,6 +152,7 @@ module _ {reg word node x : ℕ} {u m : SeatData} (first : Sound u.view) (middle
       none_lost = near_kept sees near;
       none_claimed = refl;
       none_scanned = refl;
+      none_filled = refl;
       few = omega arith;
       view = tried_only sees;
       same = sees.same ∙ ap (λ (b : Bool). record u { view = m.view; fresh = b }) (sym (ap (λ (z : SeatData). z.fresh) sees.same));
@@ -190,6 +192,7 @@ module _ {reg word node x : ℕ} {u m : SeatData} (first : Sound u.view) (middle
         paced = record { rounds = omega (arith, lost-append once twice); tries = omega (arith, lost-append once twice) };
         some_tried = omega arith;
         none_scanned = refl;
+        none_filled = refl;
         few = omega arith;
         view = tried_only again ∙ ap (λ (z : View). record z { seen = w.view.seen; look = w.view.look; trail = w.view.trail }) (tried_only sees);
         same = again.same ∙ ap (λ (z : SeatData). stepped w.view z) sees.same;

@@ -1,5 +1,5 @@
 -- Reads of a cell's inline words in a call, and the steps that follow them.
-use Rattle.std.proofs.Common.{◌≡◌, ◌≢◌, ◌∙◌, ℕ, ◌≤◌, suc, Bool, true, false, cond, List, [], ◌∷◌, ◌++◌, Option, Some, None, ◌⊎◌}
+use Rattle.std.proofs.Common.{◌≡◌, ◌≢◌, ◌∙◌, ℕ, ◌+◌, ◌≤◌, suc, Bool, true, false, cond, List, [], ◌∷◌, ◌++◌, Option, Some, None, ◌⊎◌}
 use Rattle.std.proofs.Common.{length, drop, filter, append_assoc, length-append, refl, sym, ap, subst, arith, inl, inr, ⊎_elim, eq-eqb}
 use Rattle.std.specs.Prelude.{slice_index}
 use Rattle.big_atomic.proofs.Answered.{MayEnd}
@@ -7,11 +7,11 @@ use Rattle.big_atomic.proofs.Claimed.{looks_then, stays_then}
 use Rattle.big_atomic.proofs.Goings.{few_before, few_then, looked_more, only_then}
 use Rattle.big_atomic.proofs.Marking.{among_more}
 use Rattle.big_atomic.proofs.Pacing.{paces_then}
-use Rattle.big_atomic.proofs.Paid.{AreStill, claim_stores-append, exchanges-append, last_look-append, lost-append, paid_then, rounds-append, scan_loads-append}
+use Rattle.big_atomic.proofs.Paid.{AreStill, claim_stores-append, exchanges-append, last_look-append, lost-append, node_stores-append, paid_then, rounds-append, scan_loads-append}
 use Rattle.big_atomic.proofs.Paid.{still_exchanges, still_first, still_last, still_lost, still_rounds}
 use Rattle.big_atomic.specs.Calling.{AreLooks, Goes, HasSeen, IsLooked, OnlySteps, Stays}
 use Rattle.big_atomic.specs.Reads.{ClaimsAreCaused, FoundTwoVersions, IsInlineRead, ReadFailed}
-use Rattle.big_atomic.specs.Turns.{TurnsArePaid, changes_on, claim_rounds, claim_stores, is_claim_store, is_lost, last_look, lost_steps, scan_loads}
+use Rattle.big_atomic.specs.Turns.{TurnsArePaid, changes_on, claim_rounds, claim_stores, is_claim_store, is_lost, last_look, lost_steps, node_stores, scan_loads}
 use Rattle.cache_copy.specs.Reading.{OnlyRead, ReadsInline, inline_steps, read_steps}
 use Rattle.cache_copy.specs.declared.answers.Inline.{Inline}
 use Rattle.cache_copy.specs.declared.answers.Inline.TheVariants.{Changed, Marked, Odd, Words}
@@ -19,6 +19,7 @@ use Rattle.seat_history.specs.declared.call.Call.{Call}
 use Rattle.seat_history.specs.declared.entry.Entry.{Entry}
 use Rattle.seat_history.specs.declared.reply.Reply.{Reply}
 use Rattle.seat_history.specs.declared.reply.Reply.TheVariants.{Full}
+use Rattle.seat_history.specs.declared.words.TheConstants.{WIDTH}
 use Rattle.step_rules.proofs.Line.Trails.{longer_seen}
 use Rattle.step_rules.proofs.Rely.Advance.{goes_further}
 use Rattle.step_rules.proofs.Ties.Notes.{only_stepped}
@@ -108,6 +109,10 @@ inline_unstored : (k j : ℕ) (ws : List ℕ) (seen : ℕ) → claim_stores (inl
 inline_unstored k j [] seen = refl
 inline_unstored k j (w ∷ ws) seen = inline_unstored k (suc j) ws seen
 
+inline_unfilled : (k j : ℕ) (ws : List ℕ) (seen : ℕ) → node_stores (inline_steps k j ws seen) ≡ 0
+inline_unfilled k j [] seen = refl
+inline_unfilled k j (w ∷ ws) seen = inline_unfilled k (suc j) ws seen
+
 inline_length : (k j : ℕ) (ws : List ℕ) (seen : ℕ) → length (inline_steps k j ws seen) ≡ length ws
 inline_length k j [] seen = refl
 inline_length k j (w ∷ ws) seen = ap suc (inline_length k (suc j) ws seen)
@@ -135,6 +140,7 @@ pub record ReadOnce (k : ℕ) (steps : List Counted) (before now : SeatData) : T
   pub none_lost : lost_steps steps ≡ 0
   pub none_claimed : claim_rounds steps ≡ 0
   pub none_stored : claim_stores steps ≡ 0
+  pub none_filled : node_stores steps ≡ 0
   pub looks : AreLooks steps
   pub looked : (first_look k steps ≡ None) ⊎ LooksOnce k steps now
 
@@ -145,6 +151,7 @@ ReadTells k _ steps now = ReadFailed k steps
 
 pub record HasReadOnce (k : ℕ) (answer : Inline) (before now : SeatData) : Type 0 where
   pub steps : List Counted
+  pub few : length steps ≤ WIDTH + 4
   pub once : ReadOnce k steps before now
   pub tells : ReadTells k answer steps now
 
@@ -162,6 +169,7 @@ read_front {k} u ws before now trail only law =
       none_lost = still_lost steps still;
       none_claimed = still_rounds steps still;
       none_stored = inline_unstored k 0 ws seen;
+      none_filled = inline_unfilled k 0 ws seen;
       looks = record { none_exchanged = still_exchanges steps still; none_scanned = inline_unscanned k 0 ws seen };
       looked = inl (still_first k steps still);
     }
@@ -185,9 +193,9 @@ read_looks k u x ws more before now still =
     }
 
 read_look : (k u x : ℕ) (ws : List ℕ) (more : List Counted) (before now : SeatData) → now.view.trail ≡ before.view.trail ++ look_steps k u x ws more before now
-    → AreStill more → scan_loads more ≡ 0 → claim_stores more ≡ 0 → OnlyRead before now → IsSeat now
+    → AreStill more → scan_loads more ≡ 0 → claim_stores more ≡ 0 → node_stores more ≡ 0 → OnlyRead before now → IsSeat now
     → ReadOnce k (look_steps k u x ws more before now) before now
-read_look k u x ws more before now trail still unscanned unstored only law =
+read_look k u x ws more before now trail still unscanned unstored unfilled only law =
     let seen = length before.view.seen in
     let front : List Counted = read_steps k u ws seen in
     let rest : List Counted = counted (BackupLoad k) x (length now.view.seen) ∷ more in
@@ -199,6 +207,7 @@ read_look k u x ws more before now trail still unscanned unstored only law =
       none_lost = omega (arith, lost-append front rest, still_lost front first, still_lost more still);
       none_claimed = omega (arith, rounds-append front rest, still_rounds front first, still_rounds more still);
       none_stored = omega (arith, claim_stores-append front rest, inline_unstored k 0 ws seen);
+      none_filled = omega (arith, node_stores-append front rest, inline_unfilled k 0 ws seen);
       looks = record {
         none_exchanged = omega (arith, exchanges-append front rest, still_exchanges front first, still_exchanges more still);
         none_scanned = omega (arith, scan_loads-append front rest, inline_unscanned k 0 ws seen);
@@ -210,14 +219,18 @@ read_look k u x ws more before now trail still unscanned unstored only law =
 pub read_once : {k : ℕ} (answer : Inline) {before now : SeatData} → ReadsInline k answer before now → OnlyRead before now → IsSeat now → HasReadOnce k answer before now
 read_once {k} Odd {before} {now} h only law = record {
   steps = read_steps k h.version [] (length before.view.seen);
+  few = omega arith;
   once = read_front h.version [] before now (ap (λ (z : SeatData). z.view.trail) h.after) only law;
   tells = inl (h.version, h.odd, record { front = []; saw = length before.view.seen; back = []; whole = refl });
 }
 read_once {k} Marked {before} {now} h only law =
     let front : List Counted = read_steps k h.version h.words (length before.view.seen) in
+    let look : Counted = counted (BackupLoad k) h.word (length now.view.seen) in
+    let wide = h.looked.whole in
     record {
-      steps = front ++ counted (BackupLoad k) h.word (length now.view.seen) ∷ [];
-      once = read_look k h.version h.word h.words [] before now h.looked.trail refl refl refl only law;
+      steps = front ++ look ∷ [];
+      few = omega (arith, length-append front (look ∷ []), inline_length k 0 h.words (length before.view.seen));
+      once = read_look k h.version h.word h.words [] before now h.looked.trail refl refl refl refl only law;
       tells = inr (inl (h.word, h.marked, record { front = front; saw = length now.view.seen; back = []; whole = refl }));
     }
 read_once {k} Changed {before} {now} h only law =
@@ -225,9 +238,12 @@ read_once {k} Changed {before} {now} h only law =
     let loads : List Counted = inline_steps k 0 h.words (length before.view.seen) in
     let look : Counted = counted (BackupLoad k) e.word (length now.view.seen) in
     let again : Counted = counted (VersionAgain k) h.again (length now.view.seen) in
+    let front : List Counted = read_steps k h.version h.words (length before.view.seen) in
+    let wide = e.looked.whole in
     record {
-      steps = read_steps k h.version h.words (length before.view.seen) ++ look ∷ again ∷ [];
-      once = read_look k h.version e.word h.words (again ∷ []) before now e.trail refl refl refl only law;
+      steps = front ++ look ∷ again ∷ [];
+      few = omega (arith, length-append front (look ∷ again ∷ []), inline_length k 0 h.words (length before.view.seen));
+      once = read_look k h.version e.word h.words (again ∷ []) before now e.trail refl refl refl refl only law;
       tells = inr (inr (record {
         front = [];
         version = h.version;
@@ -247,7 +263,8 @@ read_once {k} (Words ws) {before} {now} h only law =
     let wide = e.looked.whole in
     record {
       steps = front ++ look ∷ again ∷ [];
-      once = read_look k h.version e.word ws (again ∷ []) before now e.trail refl refl refl only law;
+      few = omega (arith, length-append front (look ∷ again ∷ []), inline_length k 0 ws (length before.view.seen));
+      once = read_look k h.version e.word ws (again ∷ []) before now e.trail refl refl refl refl only law;
       tells = (
         record {
           version = h.version;
@@ -356,6 +373,7 @@ module _ {k : ℕ} {steps : List Counted} {before mid : SeatData} (r : ReadOnce 
           looked = l.1;
           looks = looks_then steps s.steps r.looks s.looks;
           paced = paces_then {mid = 0} (record { rounds = omega arith; tries = omega arith }) s.paced;
+          none_filled = let none_read = r.none_filled in let none_later = s.none_filled in omega (arith, node_stores-append steps s.steps);
           stored = λ serves. let some = s.stored serves in omega (arith, claim_stores-append steps s.steps);
           stays = stays_then c before mid now (read_stays c) s.stays;
           found = s.found;

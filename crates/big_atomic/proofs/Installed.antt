@@ -7,13 +7,13 @@ use Rattle.big_atomic.proofs.Ending.{EndsBy, EndsWalk, clearing, cleared_word, e
 use Rattle.big_atomic.proofs.Goings.{calling_then, goes_still, goes_then}
 use Rattle.big_atomic.proofs.Marking.{Marks, begun_found, ends_refresh, marks_of, tries_more, version_more}
 use Rattle.big_atomic.proofs.Pacing.{paces_still, paces_then}
-use Rattle.big_atomic.proofs.Paid.{costs_then, costs_within, exchanges-append, lost-append, scan_loads-append}
-use Rattle.big_atomic.proofs.Winning.{WonCall, all_steps, exchanges_most, stand, won_costs, won_ready, won_records, won_scanned, won_tried}
+use Rattle.big_atomic.proofs.Paid.{costs_then, costs_within, exchanges-append, lost-append, node_stores-append, scan_loads-append}
+use Rattle.big_atomic.proofs.Winning.{WonCall, all_steps, exchanges_most, stand, won_costs, won_filled, won_ready, won_records, won_scanned, won_tried}
 use Rattle.big_atomic.specs.Calling.{Calling, Costs, Goes, HasLost, HasWon, OnlySteps, Paces}
 use Rattle.big_atomic.specs.Installing.{Exchanged, HasInstalled, HasMissed, HasMoved, HasNear, MayInstall, TriesMark}
 use Rattle.big_atomic.specs.Marks.{HasBegun, HasVersion}
 use Rattle.big_atomic.specs.Ready.{IsReady}
-use Rattle.big_atomic.specs.Turns.{exchanges, lost_steps, scan_loads}
+use Rattle.big_atomic.specs.Turns.{exchanges, lost_steps, node_stores, scan_loads}
 use Rattle.big_atomic.specs.declared.answers.Install.{Install as Answer}
 use Rattle.big_atomic.specs.declared.answers.Install.TheVariants.{Installed, Moved}
 use Rattle.cache_copy.specs.Refreshing.{IsInFlight, OnlyRefreshed, Refreshes}
@@ -200,6 +200,7 @@ pub record LostInstall (cell : ℕ) (before after : SeatData) : Type 0 where
   pub paced : Paces 1 0 steps
   pub some_tried : 0 < exchanges steps
   pub none_scanned : scan_loads steps ≡ 0
+  pub none_filled : node_stores steps ≡ 0
   pub twice : exchanges steps ≤ 2
   pub few : length steps ≤ 4
   pub changed : ¬ NoneOn after.view.plan cell (drop (length before.view.seen) after.view.seen)
@@ -236,6 +237,7 @@ module _ {cell seen node word : ℕ} {before u w after : SeatData} (m : Loses ce
       let one = m.lost.one_lost in
       let tried = m.lost.some_tried in
       let none = m.lost.none_scanned in
+      let unfilled = m.lost.none_filled in
       let begin : List Counted = announce_step node before u m.announces in
       let view = announce_view node before u m.announces in
       let longer = lost_longer cell (length u.view.seen) w.view.plan w.view.seen m.lost.changed in
@@ -246,6 +248,7 @@ module _ {cell seen node word : ℕ} {before u w after : SeatData} (m : Loses ce
         one_lost = omega (arith, lost-append begin (m.lost.tries ++ cleared), lost-append m.lost.tries cleared);
         some_tried = omega (arith, exchanges-append begin (m.lost.tries ++ cleared), exchanges-append m.lost.tries cleared);
         none_scanned = omega (arith, scan_loads-append begin (m.lost.tries ++ cleared), scan_loads-append m.lost.tries cleared);
+        none_filled = omega (arith, node_stores-append begin (m.lost.tries ++ cleared), node_stores-append m.lost.tries cleared);
         twice = let few = m.lost.few in omega (arith, exchanges_most m.lost.tries, exchanges-append begin (m.lost.tries ++ cleared), exchanges-append m.lost.tries cleared);
         few = let few = m.lost.few in omega (arith, length-append begin (m.lost.tries ++ cleared), length-append m.lost.tries cleared);
         changed = subst (λ (z : Plan × ℕ × List Entry). ¬ NoneOn z.0 cell (drop z.1 z.2))
@@ -349,6 +352,9 @@ module _ {shared : ObjectData} {cell version seen node : ℕ} {call : Call} {ste
   -- what it spent
   pub change_scanned : scan_loads (all_steps won_change) ≡ scan_loads steps
   change_scanned = won_scanned won_change ∙ omega (arith, scan_loads-append steps (announce_step node now h.announced h.announces))
+
+  pub change_filled : node_stores (all_steps won_change) ≡ node_stores steps
+  change_filled = won_filled won_change ∙ omega (arith, node_stores-append steps (announce_step node now h.announced h.announces))
 
   pub change_tried : 0 < exchanges (all_steps won_change)
   change_tried = won_tried won_change

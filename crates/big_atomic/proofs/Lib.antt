@@ -33,6 +33,7 @@ pub mod Sharing
 pub mod Shortage
 pub mod Stopping
 pub mod Sums
+pub mod Taking
 pub mod Unlike
 pub mod Versioned
 pub mod Winning

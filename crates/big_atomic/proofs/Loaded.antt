@@ -1,13 +1,15 @@
 -- How loads come to their answers: by a read of the inline words, and by a claim where that failed.
-use Rattle.std.proofs.Common.{◌≡◌, ◌≢◌, ◌∙◌, ℕ, ◌<◌, List, [], ◌∷◌, ◌++◌, length, take, append-nil, append_assoc, refl, sym, ap, subst, arith, ⊎_elim}
+use Rattle.std.proofs.Common.{◌≡◌, ◌≢◌, ◌∙◌, ℕ, ◌+◌, ◌*◌, ◌<◌, ◌≤◌, List, [], ◌∷◌, ◌++◌, length, take, append-nil, append_assoc, refl, sym, ap, subst, arith, ⊎_elim}
 use Rattle.std.proofs.lemmas.Bool.{cases_eq}
 use Rattle.big_atomic.proofs.Answered.{MayEnd, answered_now, clear_step, ended_none, hold_stays, of_then, ready_after, right_at}
 use Rattle.big_atomic.proofs.Balance.{nodes_stay}
 use Rattle.big_atomic.proofs.InlineReads.{HasReadOnce, ReadOnce, ReadTells, caused_after, caused_none, failed_more, inline_ends, read_ours, read_seen}
-use Rattle.big_atomic.specs.Calling.{HasClaimedRecord}
+use Rattle.big_atomic.proofs.Taking.{takes_then}
+use Rattle.big_atomic.specs.Calling.{HasClaimedRecord, TakesFew}
 use Rattle.big_atomic.specs.Calls.{HoldStays, IsLoaded, IsQuiet, register_at}
 use Rattle.big_atomic.specs.Reads.{ClaimsAreCaused, IsInlineRead, ReadFailed}
 use Rattle.big_atomic.specs.Ready.{IsReady}
+use Rattle.big_atomic.specs.Turns.{lost_steps}
 use Rattle.cache_copy.specs.declared.answers.Inline.{Inline}
 use Rattle.cache_copy.specs.declared.answers.Inline.TheVariants.{Changed, Marked, Odd, Words as InlineWords}
 use Rattle.seat_history.specs.declared.call.Call.TheVariants.{Load}
@@ -32,6 +34,7 @@ pub record FallsBack (reg word : ℕ) (rec : List ℕ) (before mid now : SeatDat
   pub once : ReadOnce reg steps before mid
   pub failed : ReadFailed reg steps
   pub claimed : HasClaimedRecord BACK reg word rec mid now
+  pub few : TakesFew (2 * WIDTH + 8) before now
 
 failed_by : {k : ℕ} (answer : Inline) {steps : List Counted} (now : SeatData) → ((ws : List ℕ) → answer ≢ InlineWords ws) → ReadTells k answer steps now → ReadFailed k steps
 failed_by (InlineWords ws) now other t = absurd (other ws refl)
@@ -40,8 +43,16 @@ failed_by Marked now other t = t
 failed_by Changed now other t = t
 
 pub falls_back : {reg word : ℕ} {rec : List ℕ} {before mid now : SeatData} (answer : Inline) → ((ws : List ℕ) → answer ≢ InlineWords ws) → HasReadOnce reg answer before mid
-    → HasClaimedRecord BACK reg word rec mid now → FallsBack reg word rec before mid now
-falls_back {mid = mid} answer other read claimed = record { steps = read.steps; once = read.once; failed = failed_by answer mid other read.tells; claimed = claimed }
+    → HasClaimedRecord BACK reg word rec mid now → TakesFew (WIDTH + 4) mid now → FallsBack reg word rec before mid now
+falls_back {before = before} {mid = mid} {now = now} answer other read claimed few =
+    let first : TakesFew (WIDTH + 4) before mid = record { steps = read.steps; trail = read.once.trail; few = let few_read = read.few in omega arith } in
+    record {
+      steps = read.steps;
+      once = read.once;
+      failed = failed_by answer mid other read.tells;
+      claimed = claimed;
+      few = subst (λ (n : ℕ). TakesFew n before now) (let e : (WIDTH + 4) + (WIDTH + 4) ≡ 2 * WIDTH + 8 = omega arith in e) (takes_then first few);
+    }
 
 module _ {reg word : ℕ} {rec : List ℕ} {before mid now : SeatData} (f : FallsBack reg word rec before mid now) where
   abbrev pub fallen : HasClaimedRecord BACK reg word rec before now
@@ -111,6 +122,7 @@ module _ {shared : ObjectData} {reg : ℕ} {ws rec : List ℕ} {before now : Sea
           subst (λ (z : ℕ × List Counted). IsInlineRead reg ws z.0 z.1) (λ i. (ap (λ (s : Stand). s.place) (sym a.stand_is) i, sym steps i)) read.tells.0,
           is_rec,
         );
+        bound = subst (λ (l : List Counted). length l ≤ 2 * WIDTH + 9 + 2 * lost_steps l) (sym steps) (let few = read.few in omega arith);
       }
 
   pub inline_ready : (after : SeatData) → InlineStood after → IsSeat after → IsReady shared after

@@ -2,9 +2,9 @@
 use Rattle.std.proofs.Common.{◌≡◌, ◌∙◌, ℕ, ◌+◌, ◌≤◌, suc, List, [], ◌∷◌, ◌++◌, length, take, drop, append-nil, append_assoc, length-append, refl, sym, ap, subst, arith, inl, inr, ⊎_elim}
 use Rattle.std.proofs.lemmas.List.{drop-append-le, take-append-drop}
 use Rattle.big_atomic.proofs.Ending.{EndsBy}
-use Rattle.big_atomic.proofs.Paid.{AreStill, lost-append, scan_loads-append, still-append}
+use Rattle.big_atomic.proofs.Paid.{AreStill, lost-append, node_stores-append, scan_loads-append, still-append}
 use Rattle.big_atomic.specs.Marks.{Among, HasBegun, HasTurn, HasVersion, Tries}
-use Rattle.big_atomic.specs.Turns.{lost_steps, scan_loads}
+use Rattle.big_atomic.specs.Turns.{lost_steps, node_stores, scan_loads}
 use Rattle.cache_copy.specs.Refreshing.{FoundMoved, HasCopied, OnlyRefreshed, Refreshes, copy_steps, own_words, write_steps}
 use Rattle.cache_copy.specs.declared.answers.Refresh.{Refresh}
 use Rattle.cache_copy.specs.declared.answers.Refresh.TheVariants.{Refreshed, LeftStale}
@@ -99,6 +99,10 @@ copies_unscanned : (k j : ℕ) (ws : List ℕ) (seen : ℕ) → scan_loads (copy
 copies_unscanned k j [] seen = refl
 copies_unscanned k j (w ∷ ws) seen = copies_unscanned k (suc j) ws seen
 
+copies_unfilled : (k j : ℕ) (ws : List ℕ) (seen : ℕ) → node_stores (copy_steps k j ws seen) ≡ 0
+copies_unfilled k j [] seen = refl
+copies_unfilled k j (w ∷ ws) seen = copies_unfilled k (suc j) ws seen
+
 copies_length : (k j : ℕ) (ws : List ℕ) (seen : ℕ) → length (copy_steps k j ws seen) ≡ length ws
 copies_length k j [] seen = refl
 copies_length k j (w ∷ ws) seen = ap suc (copies_length k (suc j) ws seen)
@@ -109,6 +113,7 @@ pub record Marks (k n u : ℕ) (before now : SeatData) : Type 0 where
   pub trail : now.view.trail ≡ before.view.trail ++ steps
   pub still : AreStill steps
   pub none_scanned : scan_loads steps ≡ 0
+  pub none_filled : node_stores steps ≡ 0
   pub few : length steps ≤ NODE_WIDTH + 3
   pub tries : Tries k n u steps
 
@@ -118,6 +123,7 @@ marks_none {before = before} same tries = record {
   trail = ap (λ (z : SeatData). z.view.trail) same ∙ sym (append-nil before.view.trail);
   still = refl;
   none_scanned = refl;
+  none_filled = refl;
   few = omega arith;
   tries = tries;
 }
@@ -130,6 +136,7 @@ marks_moved {k} {n} {u} {before} h =
       trail = ap (λ (z : SeatData). z.view.trail) h.after;
       still = refl;
       none_scanned = refl;
+      none_filled = refl;
       few = omega arith;
       tries = inr (inr (inr (inl (h.found, h.moved, record { front = []; saw = seen; back = []; whole = refl }))));
     }
@@ -148,6 +155,7 @@ marks_copied {k} {n} {u} {x} {before} {now} told h =
       trail = h.trail;
       still = still-append writes clear (still-append copies release (copies_still k 0 (own_words before.view) seen) refl) refl;
       none_scanned = omega (arith, scan_loads-append writes clear, scan_loads-append copies release, copies_unscanned k 0 (own_words before.view) seen);
+      none_filled = omega (arith, node_stores-append writes clear, node_stores-append copies release, copies_unfilled k 0 (own_words before.view) seen);
       few = omega (arith, length-append writes clear, length-append copies release, copies_length k 0 (own_words before.view) seen);
       tries = told (writes ++ clear) (record { front = writes; saw = length now.view.seen; back = []; whole = refl });
     }
@@ -190,5 +198,6 @@ ends_refresh {before = before} {now = now} m only =
       seen = only.seen;
       still = m.still;
       none_scanned = m.none_scanned;
+      none_filled = m.none_filled;
       hold = ap (λ (z : SeatData). claim_of HOLD z.view) same;
     }

@@ -7,8 +7,8 @@ use Rattle.std.proofs.lemmas.List.Elements.{filter-append}
 use Rattle.std.proofs.Math.Seq.{drop-append_seam}
 use mathlib.Core.Option.{some}
 use lib.ListN.{get_elem?}
-use Rattle.big_atomic.specs.Turns.{IsPaid, TurnsArePaid, changes_on, claim_rounds, claim_stores, exchanges, last_look, lost_steps, scan_loads}
-use Rattle.big_atomic.specs.Turns.{is_claim_round, is_claim_store, is_exchange, is_lost, is_lost_by, is_scan_load}
+use Rattle.big_atomic.specs.Turns.{IsPaid, TurnsArePaid, changes_on, claim_rounds, claim_stores, exchanges, last_look, lost_steps, node_stores, scan_loads}
+use Rattle.big_atomic.specs.Turns.{is_claim_round, is_claim_store, is_exchange, is_lost, is_lost_by, is_node_store, is_scan_load}
 use Rattle.seat_history.specs.declared.entry.Entry.{Entry}
 use Rattle.step_rules.proofs.Numbers.Places.{at_behind}
 use Rattle.step_rules.proofs.Numbers.Sets.{has_first}
@@ -41,6 +41,9 @@ claim_stores-append a b = ap length (filter-append (λ (step : Counted). is_clai
 
 pub scan_loads-append : (a b : List Counted) → scan_loads (a ++ b) ≡ scan_loads a + scan_loads b
 scan_loads-append a b = ap length (filter-append (λ (step : Counted). is_scan_load step.kind) a b) ∙ length-append _ _
+
+pub node_stores-append : (a b : List Counted) → node_stores (a ++ b) ≡ node_stores a + node_stores b
+node_stores-append a b = ap length (filter-append (λ (step : Counted). is_node_store step.kind) a b) ∙ length-append _ _
 
 pub changes-append : (p : Plan) (k x : ℕ) (a b : List Entry) → changes_on p k x (a ++ b) ≡ changes_on p k x a + changes_on p k x b
 changes-append p k x a b = ap length (filter-append (λ (e : Entry). (eqb (cell_of p e.call) k) && not (eqb e.caller x)) a b) ∙ length-append _ _

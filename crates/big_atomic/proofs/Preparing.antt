@@ -1,15 +1,15 @@
 -- How a call comes to hold a node with its record: a free one is taken and filled, or a lost turn kept it.
-use Rattle.std.proofs.Common.{◌≡◌, ◌∙◌, ℕ, ◌+◌, ◌*◌, ◌/◌, suc, true, false, List, [], ◌∷◌, ◌++◌, Option, None, Some}
-use Rattle.std.proofs.Common.{unwrap_or, length, append_assoc, length-append, refl, sym, ap, subst, arith, inl, inr, ⊎_elim}
+use Rattle.std.proofs.Common.{◌≡◌, ◌∙◌, ℕ, ◌+◌, ◌*◌, ◌/◌, ◌≤◌, suc, Bool, true, false, cond, List, [], ◌∷◌, ◌++◌, Option, None, Some}
+use Rattle.std.proofs.Common.{unwrap_or, length, filter, append_assoc, length-append, refl, sym, ap, subst, arith, inl, inr, ⊎_elim}
 use Rattle.big_atomic.proofs.Deciding.{HasRoomFor, changes_now, past_within, room_for}
 use Rattle.big_atomic.proofs.Goings.{calling_then, goes_still}
 use Rattle.big_atomic.proofs.Marking.{turn_more}
 use Rattle.big_atomic.proofs.Pacing.{paces_then}
-use Rattle.big_atomic.proofs.Paid.{AreStill, costs_then, exchanges-append, scan_loads-append, still_exchanges, still_lost, still_rounds}
+use Rattle.big_atomic.proofs.Paid.{AreStill, costs_then, exchanges-append, node_stores-append, scan_loads-append, still_exchanges, still_lost, still_rounds}
 use Rattle.big_atomic.specs.Calling.{HasClaim, HasReady, HoldsFilled, OnlySteps}
 use Rattle.big_atomic.specs.Giving.{Begun, HasDecided, HoldsNode, Past}
 use Rattle.big_atomic.specs.Marks.{HasTurn}
-use Rattle.big_atomic.specs.Turns.{scan_loads}
+use Rattle.big_atomic.specs.Turns.{is_node_store, node_stores, scan_loads}
 use Rattle.node_pool.proofs.Taken.{has_added}
 use Rattle.node_pool.specs.Pool.{IsFilled, IsTaken, store_steps}
 use Rattle.seat_history.specs.Change.{is_change}
@@ -101,6 +101,16 @@ module _ {node : ℕ} {words : List ℕ} {before taken now : SeatData} (p : Fill
     noted = ap (λ (z : SeatData). z.noted) p.fills.same ∙ ap (λ (z : SeatData). z.noted) p.takes.same;
   }
 
+-- no more steps store to a node than there are
+stores_most : (a : List Counted) → node_stores a ≤ length a
+stores_most [] = omega arith
+stores_most (c ∷ a) = go (is_node_store c.kind) (stores_most a)
+  where
+    go : (b : Bool) → node_stores a ≤ length a
+        → length (cond b (c ∷ filter (λ (step : Counted). is_node_store step.kind) a) (filter (λ (step : Counted). is_node_store step.kind) a)) ≤ suc (length a)
+    go true rest = omega arith
+    go false rest = omega arith
+
 -- A NODE WITH THE RECORD IS HELD: what was found in the register stays
 pub record HasNodeFor {shared : ObjectData} {reg : ℕ} {new : List ℕ} {done : Reply} {call : Call} (b : Begun shared reg new done call)
     (version word seen node : ℕ) (now : SeatData) : Type 0 where
@@ -133,6 +143,7 @@ module _ {shared : ObjectData} {reg : ℕ} {new : List ℕ} {done : Reply} {call
           own = ap (λ (z : View). (claim_of OWN z).word) f.view ∙ p.own;
           law = law;
           never = λ never. let none = p.never never in omega (arith, exchanges-append p.steps f.steps);
+          filled = let unfilled = r.unfilled in omega (arith, node_stores-append p.steps f.steps, stores_most f.steps);
           spent = λ once. costs_then f.steps (p.spent once) f.none_lost f.looks.none_exchanged (omega arith);
         };
         carried = record { holding = f.holding ∙ ap (λ (l : List ℕ). l ++ node ∷ []) r.idle; words = f.words };

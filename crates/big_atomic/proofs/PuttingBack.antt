@@ -1,13 +1,14 @@
 -- How a call that keeps a node puts it back before it is answered.
-use Rattle.std.proofs.Common.{◌≡◌, ◌∙◌, ℕ, ◌+◌, List, Option, None, length, sym, ap, subst, arith, inl, inr, ⊎_elim}
-use Rattle.big_atomic.specs.Calling.{Calling, HasClaim}
+use Rattle.std.proofs.Common.{◌≡◌, ◌∙◌, ℕ, ◌+◌, List, Option, length, sym, ap, subst, arith, inl, inr, ⊎_elim}
+use Rattle.big_atomic.proofs.Deciding.{IsThere}
+use Rattle.big_atomic.specs.Calling.{Calling}
 use Rattle.big_atomic.specs.Calls.{register_at}
 use Rattle.big_atomic.specs.Giving.{AtTurn, Begun, HasDecided}
 use Rattle.node_pool.specs.Pool.{IsAllPutBack}
 use Rattle.seat_history.specs.declared.call.Call.{Call}
 use Rattle.seat_history.specs.declared.reply.Reply.{Reply}
 use Rattle.step_rules.proofs.Numbers.Places.{there_at}
-use Rattle.step_rules.specs.Claims.{BACK, OWN, WALK}
+use Rattle.step_rules.specs.Claims.{OWN, WALK}
 use Rattle.step_rules.specs.SeatData.{IsSeat, NoneAnnounced, ObjectData, SeatData}
 use Rattle.step_rules.specs.Views.{claim_of, silent}
 use Rattle.step_rules.specs.declared.view.Claim.{Claim}
@@ -63,6 +64,7 @@ module _ {shared : ObjectData} {reg : ℕ} {new : List ℕ} {done : Reply} {call
           own = ap (λ (z : SeatData). (claim_of OWN z.view).word) back.same ∙ p.own;
           law = law;
           never = p.never;
+          filled = p.filled;
           spent = p.spent;
         };
         turn = ⊎_elim
@@ -70,14 +72,10 @@ module _ {shared : ObjectData} {reg : ℕ} {new : List ℕ} {done : Reply} {call
             (λ s. let some = s.1 in inr (s.0, omega (arith, as_many back p.law law))) t.turn;
       }
 
-  pub decided_back : {version word : ℕ} {rec : List ℕ} {kept : Option ℕ} → HasDecided b version word rec kept u → HasDecided b version word rec None w
-  decided_back {word = word} d =
-      let c = d.claim in record {
-        at = at_back d.at;
-        carried = back.holding;
-        turn = d.turn;
-        claim = subst (λ (z : SeatData). HasClaim BACK reg word z) (sym back.same)
-            (record { stands = c.stands; cell = c.cell; now_at = c.now_at; found = c.found; none = c.none });
-        there = ap (λ (z : SeatData). register_at z.view (length z.view.seen) reg) back.same ∙ d.there;
-        agrees = d.agrees;
-      }
+  pub decided_back : {version word : ℕ} {rec : List ℕ} {kept : Option ℕ} → HasDecided b version word rec kept u → IsThere b rec w
+  decided_back d = record {
+    at = at_back d.at;
+    idle = back.holding;
+    there = ap (λ (z : SeatData). register_at z.view (length z.view.seen) reg) back.same ∙ d.there;
+    agrees = d.agrees;
+  }

@@ -1,5 +1,5 @@
 -- How loads, holds, looks at the held record, and releases come to their answers.
-use Rattle.std.proofs.Common.{◌≡◌, ◌≢◌, ◌∙◌, ℕ, ◌+◌, ◌/◌, ◌^◌, ◌<◌, false, true, List, [], ◌∷◌, ◌++◌, Option, Some, None}
+use Rattle.std.proofs.Common.{◌≡◌, ◌≢◌, ◌∙◌, ℕ, ◌+◌, ◌*◌, ◌/◌, ◌^◌, ◌<◌, ◌≤◌, false, true, List, [], ◌∷◌, ◌++◌, Option, Some, None}
 use Rattle.std.proofs.Common.{is_some, unwrap_or, length, take, set, get_or, length-append, refl, sym, ap, subst, arith, inr}
 use Rattle.std.proofs.lemmas.Bool.{false≢true}
 use Rattle.std.proofs.lemmas.List.{get_or-set_other, get_or-set_same}
@@ -10,12 +10,13 @@ use Rattle.big_atomic.proofs.Answered.{HasEnded, MayEnd, answered_now, clear_ste
 use Rattle.big_atomic.proofs.Balance.{nodes_stay}
 use Rattle.big_atomic.proofs.Claimed.{read_goes}
 use Rattle.big_atomic.proofs.Goings.{goes_still, held_stays}
-use Rattle.big_atomic.proofs.Paid.{claim_stores-append, exchanges-append, scan_loads-append, still_exchanges}
-use Rattle.big_atomic.specs.Calling.{Goes, HasClaim, HasClaimedRecord, HasRead, HasSeen, OnlySteps}
+use Rattle.big_atomic.proofs.Paid.{claim_stores-append, exchanges-append, lost-append, scan_loads-append, still_exchanges}
+use Rattle.big_atomic.proofs.Taking.{takes_these}
+use Rattle.big_atomic.specs.Calling.{Goes, HasClaim, HasClaimedRecord, HasRead, HasSeen, OnlySteps, TakesFew}
 use Rattle.big_atomic.specs.Calls.{HoldStays, IsHeld, IsLoaded, IsLooked, IsQuiet, IsReleased, NodesStay, register_at}
 use Rattle.big_atomic.specs.Reads.{ClaimsAreCaused, ReadFailed}
 use Rattle.big_atomic.specs.Ready.{IsReady}
-use Rattle.big_atomic.specs.Turns.{claim_stores}
+use Rattle.big_atomic.specs.Turns.{claim_stores, lost_steps}
 use Rattle.node_pool.specs.Pool.{load_steps}
 use Rattle.seat_history.specs.declared.call.Call.{Call}
 use Rattle.seat_history.specs.declared.call.Call.TheVariants.{Load, Hold, Look, Release}
@@ -127,8 +128,9 @@ module _ {c reg word : ℕ} {rec : List ℕ} {before now : SeatData} (r : HasRea
   load_hold back after is = hold_stays after load_ends (ended_back now goes.sound) is (seen.stays.others HOLD (λ e. absurd (omega arith))) (λ contents held. refl)
 
   -- a claim was stored, and each had a cause
-  pub loaded : c ≡ BACK → ClaimsAreCaused (ReadFailed reg) (seen.steps ++ clear_step now ∷ []) → (after : SeatData) → LoadStood after → IsSeat after → IsLoaded reg rec before after
-  loaded back caused after is last =
+  pub loaded : c ≡ BACK → ClaimsAreCaused (ReadFailed reg) (seen.steps ++ clear_step now ∷ []) → TakesFew (2 * WIDTH + 8) before now → (after : SeatData)
+      → LoadStood after → IsSeat after → IsLoaded reg rec before after
+  loaded back caused few after is last =
       let e = ended_back now goes.sound in
       let a = answered_now after load_ends e is last in
       record {
@@ -140,6 +142,8 @@ module _ {c reg word : ℕ} {rec : List ℕ} {before now : SeatData} (r : HasRea
         caused = subst (ClaimsAreCaused (ReadFailed reg)) (sym a.steps_are) caused;
         inline = λ none. absurd (let some_stored = seen.stored (omega arith) in
             omega (arith, ap claim_stores a.steps_are, claim_stores-append seen.steps (clear_step now ∷ [])));
+        bound = subst (λ (l : List Counted). length l ≤ 2 * WIDTH + 9 + 2 * lost_steps l) (sym a.steps_are) (let few_seen = takes_these seen.steps few goes.trail in
+            omega (arith, length-append seen.steps (clear_step now ∷ []), lost-append seen.steps (clear_step now ∷ [])));
       }
 
   pub load_ready : c ≡ BACK → (shared : ObjectData) (after : SeatData) → IsReady shared before → LoadStood after → IsSeat after → IsReady shared after
@@ -171,8 +175,8 @@ module _ {c reg word : ℕ} {rec : List ℕ} {before now : SeatData} (r : HasRea
         image = ap (λ (y : Claim). y.image) same ∙ (image ∙ ap (λ (z : View). register_at z end reg ++ 0 ∷ []) (sym view));
       }
 
-  pub held_now : holds_record before.view ≡ false → c ≡ HOLD → (after : SeatData) → HoldStood after → IsSeat after → IsHeld reg before after
-  held_now none one after is last =
+  pub held_now : holds_record before.view ≡ false → c ≡ HOLD → TakesFew (WIDTH + 4) before now → (after : SeatData) → HoldStood after → IsSeat after → IsHeld reg before after
+  held_now none one few after is last =
       let e = ended_none now goes.sound in
       let a = answered_now after (hold_ends none) e is last in
       record {
@@ -180,6 +184,8 @@ module _ {c reg word : ℕ} {rec : List ℕ} {before now : SeatData} (r : HasRea
         nodes = nodes_stay (λ rs. (refl, refl)) a.answered;
         holds = subst (λ (s : Stand). IsHolding (register_at after.view s.place reg) after.view) (sym a.stand_is) (holding one after is);
         quiet = subst (λ (l : List Counted). IsQuiet l before after) (sym a.steps_are) (quiet (Hold reg) Done after e is);
+        bound = subst (λ (l : List Counted). length l ≤ WIDTH + 4 + 2 * lost_steps l) (sym a.steps_are) (let few_seen = takes_these seen.steps few goes.trail in
+            omega (arith, length-append seen.steps [], lost-append seen.steps []));
       }
 
   pub hold_ready : c ≡ HOLD → (shared : ObjectData) (after : SeatData) → IsReady shared before → HoldStood after → IsSeat after → IsReady shared after

@@ -5,10 +5,10 @@ use Rattle.std.proofs.lemmas.List.{take_all}
 use Rattle.big_atomic.proofs.Deciding.{there_now}
 use Rattle.big_atomic.proofs.Ending.{released_else}
 use Rattle.big_atomic.proofs.Goings.{calling_then}
-use Rattle.big_atomic.proofs.Installed.{EndsChange, LostInstall, announce_else, change_costs, change_ready, change_scanned, change_tried, missed_holding, missed_install, no_lock, won_change}
+use Rattle.big_atomic.proofs.Installed.{EndsChange, LostInstall, announce_else, change_costs, change_filled, change_ready, change_scanned, change_tried, missed_holding, missed_install, no_lock, won_change}
 use Rattle.big_atomic.proofs.Marking.{turn_begun}
 use Rattle.big_atomic.proofs.Pacing.{paces_then, paces_within}
-use Rattle.big_atomic.proofs.Paid.{costs_within, exchanges-append, lost-append, scan_loads-append}
+use Rattle.big_atomic.proofs.Paid.{costs_within, exchanges-append, lost-append, node_stores-append, scan_loads-append}
 use Rattle.big_atomic.proofs.Preparing.{HasNodeFor}
 use Rattle.big_atomic.proofs.Winning.{all_steps, has_won, won_reply, won_stays}
 use Rattle.big_atomic.specs.Calling.{Costs, Paces}
@@ -16,7 +16,7 @@ use Rattle.big_atomic.specs.Calls.{ScansForWant}
 use Rattle.big_atomic.specs.Giving.{Begun, HasLostTurn, HasTold, HoldsNode, Past}
 use Rattle.big_atomic.specs.Installing.{HasInstalled, HasMissed, HasNear, MayInstall}
 use Rattle.big_atomic.specs.Marks.{HasBegun}
-use Rattle.big_atomic.specs.Turns.{exchanges, scan_loads}
+use Rattle.big_atomic.specs.Turns.{exchanges, node_stores, scan_loads}
 use Rattle.hazard_claims.specs.Claiming.{IsReleased}
 use Rattle.hazard_claims.specs.declared.claims.Claim.TheVariants.{Back, Own}
 use Rattle.node_pool.proofs.Taken.{has_added}
@@ -157,6 +157,7 @@ module _ {shared : ObjectData} {reg : ℕ} {new : List ℕ} {done : Reply} {call
       own = l.own_none;
       law = last;
       never = λ never. absurd (not_never never);
+      filled = let filled = r.past.filled in let none = l.none_filled in omega (arith, node_stores-append r.past.steps l.steps);
       spent = λ once.
           let s = r.past.spent once in
           let none_lost = s.lost_most in
@@ -228,6 +229,7 @@ module _ {shared : ObjectData} {reg : ℕ} {new : List ℕ} {done : Reply} {call
               (⊎_elim (λ q. inl (same ∙ q)) (λ q. inr (same ∙ q.0, q.1, inr (change_tried e))) r.past.scans);
           full = λ need free is. absurd (b.gives.not_full need free is);
           never = λ never. absurd (not_never never);
+          filled = let filled = r.past.filled in omega (arith, ap node_stores h.steps_are, change_filled e);
           spent = λ once. subst (λ (l : List Counted). Costs 1 2 (3 * NODE_WIDTH + 4 * b.before.view.plan.seats + 16) l) (sym h.steps_are)
               (costs_within (change_costs e (r.past.spent once)) (omega arith) (omega arith) (omega arith));
         }

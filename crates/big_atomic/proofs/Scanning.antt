@@ -4,9 +4,9 @@ use Rattle.std.proofs.Common.{length, filter, append_assoc, append-nil, length-a
 use Rattle.std.proofs.lemmas.List.Filters.{length-filter_both}
 use Rattle.big_atomic.proofs.Goings.{goes_still}
 use Rattle.big_atomic.proofs.Pacing.{paces_still}
-use Rattle.big_atomic.proofs.Paid.{AreStill, all_still, scan_loads-append, still, still-append, still_exchanges, still_lost}
+use Rattle.big_atomic.proofs.Paid.{AreStill, all_still, node_stores-append, scan_loads-append, still, still-append, still_exchanges, still_lost}
 use Rattle.big_atomic.specs.Calling.{Goes, OnlySteps, Paces}
-use Rattle.big_atomic.specs.Turns.{exchanges, is_scan_load, lost_steps, scan_loads}
+use Rattle.big_atomic.specs.Turns.{exchanges, is_node_store, is_scan_load, lost_steps, node_stores, scan_loads}
 use Rattle.hazard_claims.specs.Scanning.{IsScan, names}
 use Rattle.step_rules.specs.Claims.{BACK, HOLD, OWN, On, WALK}
 use Rattle.step_rules.specs.Layout.{claim_at}
@@ -26,10 +26,11 @@ use Rattle.step_rules.specs.declared.view.View.{View}
 pub record AreLoads (n : ℕ) (loads : List Counted) : Type 0 where
   pub still : AreStill loads
   pub all : scan_loads loads ≡ n
+  pub none_filled : node_stores loads ≡ 0
   pub long : length loads ≡ n
 
 pub loads_are : (w n : ℕ) (loads : List Counted) → kinds_of loads ≡ scan_kinds w n → AreLoads n loads
-loads_are w zero [] e = record { still = refl; all = refl; long = refl }
+loads_are w zero [] e = record { still = refl; all = refl; none_filled = refl; long = refl }
 loads_are w zero (c ∷ r) e = absurd cc
 loads_are w (suc n) [] e = absurd cc
 loads_are w (suc n) (c ∷ r) e =
@@ -38,6 +39,8 @@ loads_are w (suc n) (c ∷ r) e =
     let l = loads_are (suc w) n r rest in record {
       still = ap (λ (k : Kind). still k && all_still r) head ∙ l.still;
       all = ap (λ (k : Kind). length (cond (is_scan_load k) (c ∷ filter (λ (step : Counted). is_scan_load step.kind) r) (filter (λ (step : Counted). is_scan_load step.kind) r))) head ∙ ap suc l.all;
+      none_filled = ap (λ (k : Kind). length (cond (is_node_store k) (c ∷ filter (λ (step : Counted). is_node_store step.kind) r) (filter (λ (step : Counted). is_node_store step.kind) r))) head
+          ∙ l.none_filled;
       long = ap suc l.long;
     }
 
@@ -81,6 +84,12 @@ module _ {u w : SeatData} (s : IsScan u w) (first : IsSeat u) (last : IsSeat w) 
 
   pub scan_paced : (claims : ℕ) → Paces claims claims steps
   scan_paced claims = paces_still claims steps steps_still
+
+  pub scan_unfilled : node_stores steps ≡ 0
+  scan_unfilled =
+      let clears = ⊎_elim (λ (none : s.clear ≡ []). ap node_stores none) (λ one. ap node_stores one) s.cleared in
+      let none = loads.none_filled in
+      omega (arith, node_stores-append s.clear s.loads)
 
   pub scan_all : scan_loads steps ≡ 4 * u.view.plan.seats
   scan_all = let none = (clear_is (length u.view.seen) s.clear s.cleared).1 in let all = loads.all in omega (arith, scan_loads-append s.clear s.loads)

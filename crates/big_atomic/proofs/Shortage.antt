@@ -5,13 +5,13 @@ use Rattle.std.proofs.lemmas.Bool.{and_right, cases_Bool}
 use Rattle.big_atomic.proofs.Answered.{MayEnd, ended_back, held_then, right_at, scanned_since, EndsAs, ended_as}
 use Rattle.big_atomic.proofs.Goings.{calling_then, held_stays}
 use Rattle.big_atomic.proofs.Pacing.{paces_then}
-use Rattle.big_atomic.proofs.Paid.{costs_then, costs_within, exchanges-append, scan_loads-append}
-use Rattle.big_atomic.proofs.Scanning.{holding_stays, own_words, own_words_later, scan_all, scan_few, scan_goes, scan_lost, scan_paced, scan_seen, scan_tried, scan_view, scanned_now}
+use Rattle.big_atomic.proofs.Paid.{costs_then, costs_within, exchanges-append, node_stores-append, scan_loads-append}
+use Rattle.big_atomic.proofs.Scanning.{holding_stays, own_words, own_words_later, scan_all, scan_few, scan_goes, scan_lost, scan_paced, scan_seen, scan_tried, scan_unfilled, scan_view, scanned_now}
 use Rattle.big_atomic.specs.Calling.{Calling, Costs, Goes, HasReady, HasRoom}
 use Rattle.big_atomic.specs.Calls.{IsFullAnswer}
 use Rattle.big_atomic.specs.Giving.{Begun, HasDecided, HasTold, OnlyLooked, Past}
 use Rattle.big_atomic.specs.Ready.{IsReady}
-use Rattle.big_atomic.specs.Turns.{exchanges, scan_loads}
+use Rattle.big_atomic.specs.Turns.{exchanges, node_stores, scan_loads}
 use Rattle.hazard_claims.specs.Scanning.{IsScan, names}
 use Rattle.seat_history.specs.Change.{is_change}
 use Rattle.seat_history.specs.History.{state_at}
@@ -215,6 +215,15 @@ module _ {shared : ObjectData} {reg : ℕ} {new : List ℕ} {done : Reply} {call
           short_before,
         );
         never = λ _. ap exchanges a.steps_are ∙ none_tried;
+        filled =
+            let filled = p.filled in
+            omega (
+              arith,
+              ap node_stores a.steps_are,
+              node_stores-append (p.steps ++ scan_steps) clear,
+              node_stores-append p.steps scan_steps,
+              scan_unfilled scan p.law s.law,
+            );
         spent = λ once.
             let spent : Costs 0 0 (WIDTH + 6 + 4 * b.before.view.plan.seats) (p.steps ++ scan_steps) =
             costs_then scan_steps (p.spent once) (scan_lost scan p.law s.law) (scan_tried scan p.law s.law) (omega (arith, scan_few scan p.law s.law)) in

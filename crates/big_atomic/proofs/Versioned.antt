@@ -6,7 +6,7 @@ use Rattle.big_atomic.proofs.Claimed.{claimed_read, loads_still, lost_longer, lo
 use Rattle.big_atomic.proofs.Goings.{goes_still, goes_then, looked_then}
 use Rattle.big_atomic.proofs.Marking.{turn_more}
 use Rattle.big_atomic.proofs.Pacing.{paces_still, paces_then}
-use Rattle.big_atomic.proofs.Paid.{lost-append, paid_cons, still_lost}
+use Rattle.big_atomic.proofs.Paid.{lost-append, node_stores-append, paid_cons, still_lost}
 use Rattle.big_atomic.specs.Calling.{Goes, HasFound, HasRead, HasSeen, HasStarted, HasStartedRecord, HasTurned, IsLooked, LookedOnce, OnlySteps, Stays, turn_steps}
 use Rattle.big_atomic.specs.Marks.{HasVersion}
 use Rattle.hazard_claims.specs.declared.answers.Recheck.TheVariants.{Other, Same}
@@ -68,6 +68,7 @@ module _ {k u : ℕ} (before mid : SeatData) (is : mid ≡ stepped (version_view
     looked = looked_begun s.looked;
     looks = record { none_exchanged = s.looks.none_exchanged; none_scanned = s.looks.none_scanned };
     paced = record { rounds = s.paced.rounds; tries = s.paced.tries };
+    none_filled = s.none_filled;
     stored = s.stored;
     stays = stays_then c before mid now (begin_stays c) s.stays;
     found = s.found;
@@ -82,6 +83,7 @@ module _ {k u : ℕ} (before mid : SeatData) (is : mid ≡ stepped (version_view
     looked = looked_then (s.goes None) s.looked (begin_goes sound);
     looks = looks_then s.steps (load ∷ []) s.looks (record { none_exchanged = refl; none_scanned = refl });
     paced = paces_then s.paced (paces_still 0 (load ∷ []) refl);
+    none_filled = let none = s.none_filled in omega (arith, node_stores-append s.steps (load ∷ []));
     stored = λ serves. absurd (omega arith);
     stays = stays_then c first before mid s.stays (begin_stays c);
     found = subst (λ (m : SeatData). HasFound k word m.view) (sym is) s.found;

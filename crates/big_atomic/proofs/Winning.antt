@@ -11,13 +11,13 @@ use Rattle.big_atomic.proofs.Balance.{balance, removes_spent}
 use Rattle.big_atomic.proofs.Ending.{EndsBy}
 use Rattle.big_atomic.proofs.Goings.{calling_then, drop_parts, held_stays, looked_more}
 use Rattle.big_atomic.proofs.Marking.{version_more}
-use Rattle.big_atomic.proofs.Paid.{changes-append, exchanges-append, lost-append, paid_kept, paid_more, paid_still, paid_then}
+use Rattle.big_atomic.proofs.Paid.{changes-append, exchanges-append, lost-append, node_stores-append, paid_kept, paid_more, paid_still, paid_then}
 use Rattle.big_atomic.proofs.Paid.{rounds-append, saw_within, scan_loads-append, still_exchanges, still_lost, still_rounds}
 use Rattle.big_atomic.specs.Calling.{Calling, HasWon, Costs, Paces}
 use Rattle.big_atomic.specs.Calls.{HoldStays}
 use Rattle.big_atomic.specs.Marks.{HasVersion, Tries}
 use Rattle.big_atomic.specs.Ready.{IsReady}
-use Rattle.big_atomic.specs.Turns.{TurnsArePaid, changes_on, claim_rounds, exchanges, is_exchange, is_lost, lost_steps, scan_loads}
+use Rattle.big_atomic.specs.Turns.{TurnsArePaid, changes_on, claim_rounds, exchanges, is_exchange, is_lost, lost_steps, node_stores, scan_loads}
 use Rattle.seat_history.proofs.Histories.{state_at-append}
 use Rattle.seat_history.specs.Change.{is_change}
 use Rattle.seat_history.specs.Contents.{Contents}
@@ -317,6 +317,11 @@ module _ {k version word node : ℕ} {call : Call} {steps clears : List Counted}
   won_scanned =
       let none = w.won.retried.none_scanned in
       let after = w.ended.none_scanned in omega (arith, scan_loads-append (steps ++ w.won.tries) tail, scan_loads-append steps w.won.tries)
+
+  pub won_filled : node_stores all_steps ≡ node_stores steps
+  won_filled =
+      let none = w.won.retried.none_filled in
+      let after = w.ended.none_filled in omega (arith, node_stores-append (steps ++ w.won.tries) tail, node_stores-append steps w.won.tries)
 
   pub won_tried : 0 < exchanges all_steps
   won_tried = omega (arith, exchanges-append (steps ++ w.won.tries) tail)

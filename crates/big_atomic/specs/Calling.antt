@@ -3,7 +3,7 @@ use Rattle.std.specs.Prelude.{◌≡◌, ◌≢◌, ℕ, ◌+◌, ◌-◌, ◌*�
 use Rattle.big_atomic.specs.Calls.{register_at}
 use Rattle.big_atomic.specs.Marks.{FoundWord, HasTurn}
 use Rattle.big_atomic.specs.Ready.{IsReady}
-use Rattle.big_atomic.specs.Turns.{TurnsArePaid, changes_on, claim_rounds, claim_stores, exchanges, last_look, lost_steps, scan_loads}
+use Rattle.big_atomic.specs.Turns.{TurnsArePaid, changes_on, claim_rounds, claim_stores, exchanges, last_look, lost_steps, node_stores, scan_loads}
 use Rattle.hazard_claims.specs.Scanning.{IsScan}
 use Rattle.hazard_claims.specs.declared.answers.Recheck.{Recheck as Rechecked}
 use Rattle.hazard_claims.specs.declared.answers.Recheck.TheVariants.{Same, Other}
@@ -67,6 +67,12 @@ pub record Paces (from to : ℕ) (steps : List Counted) : Type 0 where
   pub rounds : claim_rounds steps + from ≤ lost_steps steps + to
   pub tries : exchanges steps ≤ 2 * lost_steps steps
 
+-- at most n steps were made, and two more for each lost one
+pub record TakesFew (n : ℕ) (before now : SeatData) : Type 0 where
+  pub steps : List Counted
+  pub trail : now.view.trail ≡ before.view.trail ++ steps
+  pub few : length steps ≤ n + 2 * lost_steps steps
+
 -- the first look at the cell is among the steps
 pub record IsLooked (k : ℕ) (steps : List Counted) (look : ℕ) (before now : SeatData) : Type 0 where
   pub looked : first_look k steps ≡ Some look
@@ -126,6 +132,7 @@ pub record HasSeen (c reg word claims : ℕ) (before now : SeatData) : Type 0 wh
   pub looked : IsLooked reg steps look before now
   pub looks : AreLooks steps
   pub paced : Paces 0 claims steps
+  pub none_filled : node_stores steps ≡ 0
   pub stored : 0 < claims → 0 < claim_stores steps
   pub stays : Stays c before now
   pub found : HasFound reg word now.view
@@ -203,6 +210,7 @@ pub record HasRetried (reg : ℕ) (tries : List Counted) (before mid : SeatData)
   pub none_lost : lost_steps tries ≡ 0
   pub none_claimed : claim_rounds tries ≡ 0
   pub none_scanned : scan_loads tries ≡ 0
+  pub none_filled : node_stores tries ≡ 0
   pub few : length tries ≤ 1
   pub view : mid.view ≡ record before.view { seen = mid.view.seen; look = mid.view.look; trail = mid.view.trail }
   pub same : mid ≡ record before { view = mid.view; fresh = mid.fresh }
@@ -225,6 +233,7 @@ pub record HasLost (reg word other : ℕ) (before now : SeatData) : Type 0 where
   pub paced : Paces 1 0 tries
   pub some_tried : 0 < exchanges tries
   pub none_scanned : scan_loads tries ≡ 0
+  pub none_filled : node_stores tries ≡ 0
   pub few : length tries ≤ 2
   pub view : now.view ≡ record before.view { seen = now.view.seen; look = now.view.look; trail = now.view.trail }
   pub same : now ≡ stepped now.view before

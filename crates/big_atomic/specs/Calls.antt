@@ -2,7 +2,7 @@
 use Rattle.std.specs.Prelude.{◌≡◌, ◌≢◌, ℕ, ◌+◌, ◌*◌, ◌<◌, ◌≤◌, ◌⊎◌, Bool, true, false, List, [], ◌∷◌, ◌++◌, None, length, filter, take, drop}
 use Rattle.big_atomic.specs.Marks.{IsRefreshed}
 use Rattle.big_atomic.specs.Reads.{ClaimsAreCaused, IsInlineRead, ReadFailed}
-use Rattle.big_atomic.specs.Turns.{TurnsArePaid, changes_on, claim_rounds, claim_stores, exchanges, lost_steps, scan_loads}
+use Rattle.big_atomic.specs.Turns.{TurnsArePaid, changes_on, claim_rounds, claim_stores, exchanges, lost_steps, node_stores, scan_loads}
 use Rattle.big_atomic.specs.declared.answers.Stored.{Stored}
 use Rattle.big_atomic.specs.declared.answers.Stored.TheVariants.{Done as StoreDone, Full as StoreFull}
 use Rattle.big_atomic.specs.declared.answers.Swap.{Swap as Answer}
@@ -98,6 +98,8 @@ pub record IsLoaded (reg : ℕ) (words : List ℕ) (before after : SeatData) : T
   pub caused : ClaimsAreCaused (ReadFailed reg) answered.steps
   -- a load that stores none is one such read, whose record is the answer; it stands where the read found the backup unmarked
   pub inline : claim_stores answered.steps ≡ 0 → (ws : List ℕ) × IsInlineRead reg ws answered.stand.place answered.steps × (words ≡ take WIDTH ws)
+  -- in all one failed read of WIDTH + 4 steps at most, one look, two steps for each turn, the WIDTH + 1 words of the claimed node, and the claim's end
+  pub bound : length answered.steps ≤ 2 * WIDTH + 9 + 2 * lost_steps answered.steps
 
 -- what a store's answer says of its stand
 abbrev pub store_reply : Stored → Reply
@@ -113,6 +115,8 @@ pub record IsStored (reg : ℕ) (new : List ℕ) (answer : Stored) (before after
   pub full : (need free : ℕ) → answer ≡ StoreFull need free → IsFullAnswer need free answered.steps before after
   -- a seat that has more nodes than there are claim words is never short of one
   pub enough : 4 * before.view.plan.seats < stock before.view → answer ≡ StoreDone
+  -- whatever turns are lost, one node at most is taken, by one store, and its WIDTH + 1 words are filled once
+  pub filled : node_stores answered.steps ≤ WIDTH + 2
 
 -- what a compare-and-swap's answer says of its stand
 abbrev pub swap_reply : Answer → Reply
@@ -145,6 +149,8 @@ pub record IsSwapped (reg : ℕ) (old new : List ℕ) (answer : Answer) (before 
   pub twice : exchanges answered.steps ≤ 2
   pub same : old ≡ new → exchanges answered.steps ≡ 0
   pub bound : length answered.steps ≤ 3 * NODE_WIDTH + 4 * before.view.plan.seats + 16
+  -- of these one stores to take a node and WIDTH + 1 to fill it, whichever try of the exchange it is for
+  pub filled : node_stores answered.steps ≤ WIDTH + 2
 
 -- the register's record of the stand's place is held
 pub record IsHeld (reg : ℕ) (before after : SeatData) : Type 0 where
@@ -152,6 +158,8 @@ pub record IsHeld (reg : ℕ) (before after : SeatData) : Type 0 where
   pub nodes : NodesStay before after
   pub holds : IsHolding (register_at after.view answered.stand.place reg) after.view
   pub quiet : IsQuiet answered.steps before after
+  -- one look, two steps for each turn, and the words of the claimed node
+  pub bound : length answered.steps ≤ WIDTH + 4 + 2 * lost_steps answered.steps
 
 -- a look at the held record was answered with it, whatever was stored since; it loads the words of the record's node, and no node changed hands
 pub record IsLooked (words : List ℕ) (before after : SeatData) : Type 0 where

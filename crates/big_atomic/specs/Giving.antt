@@ -4,7 +4,7 @@ use Rattle.big_atomic.specs.Calling.{AreLooks, Began, Calling, Costs, HasClaim, 
 use Rattle.big_atomic.specs.Calls.{Answered, HoldStays, IsFullAnswer, ScansForWant, register_at}
 use Rattle.big_atomic.specs.Marks.{HasTurn}
 use Rattle.big_atomic.specs.Ready.{IsReady}
-use Rattle.big_atomic.specs.Turns.{exchanges, scan_loads}
+use Rattle.big_atomic.specs.Turns.{exchanges, node_stores, scan_loads}
 use Rattle.big_atomic.specs.declared.answers.Given.{Given as Answer}
 use Rattle.big_atomic.specs.declared.answers.Given.TheVariants.{Done as GivenDone, Full as GivenFull, Moved as GivenMoved}
 use Rattle.seat_history.specs.Change.{is_change}
@@ -59,8 +59,8 @@ pub record IsOnce {shared : ObjectData} {reg : ℕ} {new : List ℕ} {done : Rep
   pub look_is : b.look ≡ look
   pub once : b.once ≡ true
 
--- what it did so far: of its claims Back alone may stand beside Hold; one serves its turn. A scan was made only where no node was free, and where
--- it tries once it lost so many exchanges and made at most so many steps
+-- what it did so far: of its claims Back alone may stand beside Hold; one serves its turn. A scan was made only where no node was free, one
+-- node at most was filled, and where it tries once it lost so many exchanges and made at most so many steps
 pub record Past {shared : ObjectData} {reg : ℕ} {new : List ℕ} {done : Reply} {call : Call} (b : Begun shared reg new done call) (lost most : ℕ) (now : SeatData) : Type 0 where
   pub steps : List Counted
   pub calling : Calling reg steps b.look b.before now
@@ -70,6 +70,7 @@ pub record Past {shared : ObjectData} {reg : ℕ} {new : List ℕ} {done : Reply
   pub own : (claim_of OWN now.view).word ≡ 0
   pub law : IsSeat now
   pub never : ((c : Contents) → is_change c call ≡ false) → exchanges steps ≡ 0
+  pub filled : node_stores steps ≤ WIDTH + 2
   pub spent : b.once ≡ true → Costs lost (2 * lost) most steps
 
 -- nothing but looks and loads was made, and the nodes are as many as the seat had
@@ -98,14 +99,16 @@ pub record HasClaimedNode {shared : ObjectData} {reg : ℕ} {new : List ℕ} {do
     (version word : ℕ) (now : SeatData) : Type 0 where
   pub at : AtTurn b 0 4 now
   pub idle : now.holding ≡ []
+  pub unfilled : node_stores at.past.steps ≡ 0
   pub turn : HasTurn reg version word at.past.steps
   pub claim : HasClaim BACK reg word now
 
--- and has the record, by which the call is to be decided; a node may be kept from a lost turn
+-- and has the record, by which the call is to be decided; a node may be kept from a lost turn, else none was filled yet
 pub record HasDecided {shared : ObjectData} {reg : ℕ} {new : List ℕ} {done : Reply} {call : Call} (b : Begun shared reg new done call) (version word : ℕ)
     (rec : List ℕ) (kept : Option ℕ) (now : SeatData) : Type 0 where
   pub at : AtTurn b 0 (WIDTH + 5) now
   pub carried : Carries kept new now
+  pub unfilled : kept ≡ None → node_stores at.past.steps ≡ 0
   pub turn : HasTurn reg version word at.past.steps
   pub claim : HasClaim BACK reg word now
   pub there : register_at now.view (length now.view.seen) reg ≡ rec
@@ -144,6 +147,7 @@ pub record HasTold {shared : ObjectData} {reg : ℕ} {new : List ℕ} {done : Re
   pub scans : ScansForWant 1 reply answered.steps b.before
   pub full : (need free : ℕ) → reply ≡ Full need free → IsFullAnswer need free answered.steps b.before after × (stock b.before.view ≤ 4 * b.before.view.plan.seats)
   pub never : ((c : Contents) → is_change c call ≡ false) → exchanges answered.steps ≡ 0
+  pub filled : node_stores answered.steps ≤ WIDTH + 2
   pub spent : b.once ≡ true → Costs 1 2 (3 * NODE_WIDTH + 4 * b.before.view.plan.seats + 16) answered.steps
 
 -- how far a call has come

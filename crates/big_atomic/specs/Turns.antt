@@ -7,7 +7,7 @@ use Rattle.step_rules.specs.Kinds.Standing.{is_look}
 use Rattle.step_rules.specs.declared.plan.Plan.{Plan}
 use Rattle.step_rules.specs.declared.view.Counted.{Counted}
 use Rattle.step_rules.specs.declared.view.Kind.{Kind}
-use Rattle.step_rules.specs.declared.view.Kind.TheVariants.{BackupExchange, ClaimStore, Recheck, ScanLoad}
+use Rattle.step_rules.specs.declared.view.Kind.TheVariants.{BackupExchange, ClaimStore, NodeStore, Recheck, ScanLoad}
 
 -- a recheck or an exchange that found another node than that of the word which it was given
 abbrev pub is_lost_by : Kind → ℕ → Bool
@@ -53,6 +53,14 @@ is_scan_load _ = false
 -- how many of the steps are loads of a scan
 abbrev pub scan_loads : List Counted → ℕ
 scan_loads steps = length (filter (λ (step : Counted). is_scan_load step.kind) steps)
+
+abbrev pub is_node_store : Kind → Bool
+is_node_store (NodeStore node j word) = true
+is_node_store _ = false
+
+-- how many of the steps store a word of a node
+abbrev pub node_stores : List Counted → ℕ
+node_stores steps = length (filter (λ (step : Counted). is_node_store step.kind) steps)
 
 -- how many of the entries are other callers' changes of the cell k
 abbrev pub changes_on : Plan → ℕ → ℕ → List Entry → ℕ

@@ -1,6 +1,6 @@
 //! Claims on the node that a register's cell names.
-ghost use Rattle.std.specs.Prelude.{◌≡◌, ◌<◌, ◌++◌, ◌∷◌, [], false, length, take};
-ghost use Rattle.big_atomic.specs.Calling.{HasClaimed, HasClaimedRecord, HasFound, HasRead, HasTried, HasTurned, LookedOnce};
+ghost use Rattle.std.specs.Prelude.{◌≡◌, ◌+◌, ◌<◌, ◌++◌, ◌∷◌, [], false, length, take};
+ghost use Rattle.big_atomic.specs.Calling.{HasClaimed, HasClaimedRecord, HasFound, HasRead, HasTried, HasTurned, LookedOnce, TakesFew};
 ghost use Rattle.hazard_claims.specs.Claiming.{claim_number};
 ghost use Rattle.seat_history.specs.declared.words.TheConstants.{WIDTH};
 ghost use Rattle.step_rules.specs.Claims.{HOLD, Tells};
@@ -27,6 +27,7 @@ pub(crate) fn claim_record(shared: &Shared, seat: &mut Seat, claim: Claim, reg: 
     requires tells { Tells (claim_number claim) }
     requires free { claim_number claim ≡ HOLD → holds_record seat.old.view ≡ false }
     ensures claimed { HasClaimedRecord (claim_number claim) reg result.word result.rec seat.old seat.new }
+    ensures few { TakesFew (WIDTH + 4) seat.old seat.new }
     ensures law { IsSeat seat.new }
 {
     let word = claim_node(shared, seat, claim, reg);
@@ -41,6 +42,7 @@ pub fn claim_node(shared: &Shared, seat: &mut Seat, claim: Claim, reg: u32) -> u
     requires tells { Tells (claim_number claim) }
     requires free { claim_number claim ≡ HOLD → holds_record seat.old.view ≡ false }
     ensures claimed { HasClaimed (claim_number claim) reg result seat.old seat.new }
+    ensures few { TakesFew 3 seat.old seat.new }
     ensures law { IsSeat seat.new }
 {
     // By its law at entry no step changes whether a record is held. The caller owes no law.

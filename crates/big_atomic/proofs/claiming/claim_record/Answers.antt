@@ -1,6 +1,7 @@
 use Rattle.std.proofs.Common.{None, ◌/◌, ◌<◌, arith, subst, sym}
 use Rattle.big_atomic.proofs.Answered.{goes_of}
 use Rattle.big_atomic.proofs.Claimed.{claimed_read, may_load, node_fits, tells_low}
+use Rattle.big_atomic.proofs.Taking.{takes_read}
 use Rattle.hazard_claims.specs.Claiming.{claim_number}
 use Rattle.step_rules.specs.declared.plan.Plan.{Plan}
 use Rattle.big_atomic.proofs.claiming.claim_record.Goals as goal
@@ -21,3 +22,8 @@ read_record-rec-requires-clause-known c =
 pub returns-clause-claimed : goal.returns-clause-claimed
 returns-clause-claimed c = claimed_read c.requires.tells
     (subst (λ (p : Plan). c.args.reg < p.registers) (sym c.requires.ours.plan) c.requires.there) c.claim_node-word.ensures.claimed c.read_record-rec.ensures.read c.read_record-rec.ensures.law.sound
+
+pub returns-clause-few : goal.returns-clause-few
+returns-clause-few c =
+    let h = c.claim_node-word.ensures.claimed in
+    takes_read c.requires.tells (h.0.goes None).sound c.read_record-rec.ensures.law.sound c.claim_node-word.ensures.few h.1 c.read_record-rec.ensures.read

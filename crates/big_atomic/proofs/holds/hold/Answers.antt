@@ -14,5 +14,5 @@ returns c =
     let r = has_read c.requires.ready c.requires.there c.claim_record.ensures.claimed in
     record {
       ready = hold_ready r refl c.args.shared.now c.stand_now.new.seat c.requires.ready c.stand_now.ensures.seat c.stand_now.ensures.law;
-      held = held_now r c.requires.none_held refl c.stand_now.new.seat c.stand_now.ensures.seat c.stand_now.ensures.law;
+      held = held_now r c.requires.none_held refl c.claim_record.ensures.few c.stand_now.new.seat c.stand_now.ensures.seat c.stand_now.ensures.law;
     }

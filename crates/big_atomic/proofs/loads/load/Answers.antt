@@ -24,7 +24,7 @@ returns-in-Words c =
 pub answer_now-requires : goal.answer_now-requires
 answer_now-requires c =
     let f = falls_back c.read_inline.result (search rules) (read_once c.read_inline.result c.read_inline.ensures.answer c.read_inline.ensures.only c.read_inline.ensures.law)
-    c.claim_record-found.ensures.claimed in
+    c.claim_record-found.ensures.claimed c.claim_record-found.ensures.few in
     record {
       ours = goes_of (c.claim_record-found.ensures.claimed.0.0.goes None) (read_ours c.read_inline.ensures.only c.requires.ready.ours);
       may = may_answer (load_ends (has_read c.requires.ready c.requires.there (fallen f)));
@@ -33,9 +33,9 @@ answer_now-requires c =
 pub returns-in_default : goal.returns-in_default
 returns-in_default c =
     let f = falls_back c.read_inline.result (search rules) (read_once c.read_inline.result c.read_inline.ensures.answer c.read_inline.ensures.only c.read_inline.ensures.law)
-    c.claim_record-found.ensures.claimed in
+    c.claim_record-found.ensures.claimed c.claim_record-found.ensures.few in
     let r = has_read c.requires.ready c.requires.there (fallen f) in
     record {
       ready = load_ready r refl c.args.shared.now c.answer_now.new.seat c.requires.ready c.answer_now.ensures.seat c.answer_now.ensures.law;
-      loaded = loaded r refl (fallen_caused f) c.answer_now.new.seat c.answer_now.ensures.seat c.answer_now.ensures.law;
+      loaded = loaded r refl (fallen_caused f) f.few c.answer_now.new.seat c.answer_now.ensures.seat c.answer_now.ensures.law;
     }
