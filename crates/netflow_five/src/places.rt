@@ -1,4 +1,4 @@
-ghost use Rattle.std.specs.Prelude.{◌≡◌, ◌<◌, ◌↔◌, [], List, ℕ, Some, slice_get, length, IsTrue, IfOk, IfErr};
+ghost use Rattle.std.specs.Prelude.{◌≡◌, List, ℕ, length, IfOk, IfErr};
 ghost use Rattle.netflow_five.specs.File.{IsFile, IsWellFormed, joined, places, IsRefusal};
 ghost use Rattle.netflow_five.specs.declared.refused.Refused.TheVariants.{NoMemory};
 
@@ -6,53 +6,12 @@ use crate::collecting::collect_bytes;
 use crate::collector::Collector;
 use crate::datagram::Datagram;
 use crate::refused::Refused;
+use item_list::ItemList;
 use std::alloc::Global;
-use std::marker::Model;
 use wire_ports::NoMemory as OutOfMemory;
 
-/// Where each datagram of a file begins, and how many records it has.
-#[derive(Debug, Drop)]
-pub struct Places {
-    items: Vec<(usize, u32)>,
-}
-
-impl Model for Places {
-    ghost use Rattle.std.specs.Prelude.{List, ℕ};
-
-    ghost Value = { List (ℕ × ℕ) };
-
-    ghost view = { λ p. p.items.items };
-}
-
-impl Places {
-    /// How many datagrams there are.
-    pub fn len(&self) -> usize
-        ensures { result ≡ length self.now }
-    {
-        self.items.len()
-    }
-
-    pub fn is_empty(&self) -> bool
-        ensures { IsTrue result ↔ (self.now ≡ []) }
-    {
-        self.items.is_empty()
-    }
-
-    /// Where a datagram begins, and how many records it has. Datagrams are numbered from 0.
-    pub fn at(&self, i: usize) -> (usize, u32)
-        requires { i < length self.now }
-        ensures { slice_get self.now i ≡ Some result }
-    {
-        self.items[i]
-    }
-
-    /// All of them, in order.
-    pub fn as_slice(&self) -> &[(usize, u32)]
-        ensures { result.now ≡ self.now }
-    {
-        self.items.as_slice()
-    }
-}
+/// Where each datagram of a file begins, and how many records it has. Datagrams are numbered from 0.
+pub type Places = ItemList<(usize, u32)>;
 
 /// The places of the datagrams that were collected so far.
 #[derive(Drop)]
@@ -85,5 +44,5 @@ pub fn decode_all(alloc: Global, bytes: &[u8]) -> Result<Places, Refused>
         end: 0,
     };
     collect_bytes(bytes, &mut noted)?;
-    Ok(Places { items: noted.items })
+    Ok(Places::of_vec(noted.items))
 }
