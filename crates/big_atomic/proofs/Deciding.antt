@@ -94,7 +94,8 @@ pub costs_none : {reg : ℕ} {new : List ℕ} {done : Reply} {call : Call} → G
 costs_none g rs = (ap (λ (e : Edit). cost_of (length rs) e) (g.edits rs), ap (λ (e : Edit). gain_of (length rs) e) (g.edits rs))
 
 -- the register has a record by which the call is to be decided, and no node is held any more
-pub record IsThere {shared : ObjectData} {reg : ℕ} {new : List ℕ} {done : Reply} {call : Call} (b : Begun shared reg new done call) (rec : List ℕ) (now : SeatData) : Type 0 where
+pub record IsThere {shared : ObjectData} {reg : ℕ} {new : List ℕ} {done : Reply} {call : Call} (b : Begun shared reg new done call)
+    (rec : List ℕ) (now : SeatData) : Type 0 where
   pub at : AtTurn b 0 (WIDTH + 5) now
   pub idle : now.holding ≡ []
   pub there : register_at now.view (length now.view.seen) reg ≡ rec

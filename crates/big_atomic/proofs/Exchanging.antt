@@ -99,7 +99,16 @@ won_first {reg} {word} {u} first last won = record {
   tries = [];
   mid = u;
   found = word;
-  retried = record { goes = goes_none reg u first; none_lost = refl; none_claimed = refl; none_scanned = refl; none_filled = refl; few = omega arith; view = refl; same = refl };
+  retried = record {
+    goes = goes_none reg u first;
+    none_lost = refl;
+    none_claimed = refl;
+    none_scanned = refl;
+    none_filled = refl;
+    few = omega arith;
+    view = refl;
+    same = refl;
+  };
   near = refl;
   won = won;
   sound = last;

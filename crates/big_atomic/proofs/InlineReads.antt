@@ -7,11 +7,13 @@ use Rattle.big_atomic.proofs.Claimed.{looks_then, stays_then}
 use Rattle.big_atomic.proofs.Goings.{few_before, few_then, looked_more, only_then}
 use Rattle.big_atomic.proofs.Marking.{among_more}
 use Rattle.big_atomic.proofs.Pacing.{paces_then}
-use Rattle.big_atomic.proofs.Paid.{AreStill, claim_stores-append, exchanges-append, last_look-append, lost-append, node_stores-append, paid_then, rounds-append, scan_loads-append}
+use Rattle.big_atomic.proofs.Paid.{AreStill, claim_stores-append, exchanges-append, last_look-append, lost-append}
+use Rattle.big_atomic.proofs.Paid.{node_stores-append, paid_then, rounds-append, scan_loads-append}
 use Rattle.big_atomic.proofs.Paid.{still_exchanges, still_first, still_last, still_lost, still_rounds}
 use Rattle.big_atomic.specs.Calling.{AreLooks, Goes, HasSeen, IsLooked, OnlySteps, Stays}
 use Rattle.big_atomic.specs.Reads.{ClaimsAreCaused, FoundTwoVersions, IsInlineRead, ReadFailed}
-use Rattle.big_atomic.specs.Turns.{TurnsArePaid, changes_on, claim_rounds, claim_stores, is_claim_store, is_lost, last_look, lost_steps, node_stores, scan_loads}
+use Rattle.big_atomic.specs.Turns.{TurnsArePaid, changes_on, claim_rounds, claim_stores, is_claim_store, is_lost}
+use Rattle.big_atomic.specs.Turns.{last_look, lost_steps, node_stores, scan_loads}
 use Rattle.cache_copy.specs.Reading.{OnlyRead, ReadsInline, inline_steps, read_steps}
 use Rattle.cache_copy.specs.declared.answers.Inline.{Inline}
 use Rattle.cache_copy.specs.declared.answers.Inline.TheVariants.{Changed, Marked, Odd, Words}

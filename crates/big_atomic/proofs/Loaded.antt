@@ -1,5 +1,6 @@
 -- How loads come to their answers: by a read of the inline words, and by a claim where that failed.
-use Rattle.std.proofs.Common.{◌≡◌, ◌≢◌, ◌∙◌, ℕ, ◌+◌, ◌*◌, ◌<◌, ◌≤◌, List, [], ◌∷◌, ◌++◌, length, take, append-nil, append_assoc, refl, sym, ap, subst, arith, ⊎_elim}
+use Rattle.std.proofs.Common.{◌≡◌, ◌≢◌, ◌∙◌, ℕ, ◌+◌, ◌*◌, ◌<◌, ◌≤◌, List, [], ◌∷◌, ◌++◌, length, take}
+use Rattle.std.proofs.Common.{append-nil, append_assoc, refl, sym, ap, subst, arith, ⊎_elim}
 use Rattle.std.proofs.lemmas.Bool.{cases_eq}
 use Rattle.big_atomic.proofs.Answered.{MayEnd, answered_now, clear_step, ended_none, hold_stays, of_then, ready_after, right_at}
 use Rattle.big_atomic.proofs.Balance.{nodes_stay}

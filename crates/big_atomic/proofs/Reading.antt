@@ -142,8 +142,11 @@ module _ {c reg word : ℕ} {rec : List ℕ} {before now : SeatData} (r : HasRea
         caused = subst (ClaimsAreCaused (ReadFailed reg)) (sym a.steps_are) caused;
         inline = λ none. absurd (let some_stored = seen.stored (omega arith) in
             omega (arith, ap claim_stores a.steps_are, claim_stores-append seen.steps (clear_step now ∷ [])));
-        bound = subst (λ (l : List Counted). length l ≤ 2 * WIDTH + 9 + 2 * lost_steps l) (sym a.steps_are) (let few_seen = takes_these seen.steps few goes.trail in
-            omega (arith, length-append seen.steps (clear_step now ∷ []), lost-append seen.steps (clear_step now ∷ [])));
+        bound =
+            let few_seen = takes_these seen.steps few goes.trail in
+            let clear : List Counted = clear_step now ∷ [] in
+            subst (λ (l : List Counted). length l ≤ 2 * WIDTH + 9 + 2 * lost_steps l) (sym a.steps_are)
+            (omega (arith, length-append seen.steps clear, lost-append seen.steps clear));
       }
 
   pub load_ready : c ≡ BACK → (shared : ObjectData) (after : SeatData) → IsReady shared before → LoadStood after → IsSeat after → IsReady shared after
@@ -175,7 +178,8 @@ module _ {c reg word : ℕ} {rec : List ℕ} {before now : SeatData} (r : HasRea
         image = ap (λ (y : Claim). y.image) same ∙ (image ∙ ap (λ (z : View). register_at z end reg ++ 0 ∷ []) (sym view));
       }
 
-  pub held_now : holds_record before.view ≡ false → c ≡ HOLD → TakesFew (WIDTH + 4) before now → (after : SeatData) → HoldStood after → IsSeat after → IsHeld reg before after
+  pub held_now : holds_record before.view ≡ false → c ≡ HOLD → TakesFew (WIDTH + 4) before now → (after : SeatData)
+      → HoldStood after → IsSeat after → IsHeld reg before after
   held_now none one few after is last =
       let e = ended_none now goes.sound in
       let a = answered_now after (hold_ends none) e is last in
@@ -184,8 +188,10 @@ module _ {c reg word : ℕ} {rec : List ℕ} {before now : SeatData} (r : HasRea
         nodes = nodes_stay (λ rs. (refl, refl)) a.answered;
         holds = subst (λ (s : Stand). IsHolding (register_at after.view s.place reg) after.view) (sym a.stand_is) (holding one after is);
         quiet = subst (λ (l : List Counted). IsQuiet l before after) (sym a.steps_are) (quiet (Hold reg) Done after e is);
-        bound = subst (λ (l : List Counted). length l ≤ WIDTH + 4 + 2 * lost_steps l) (sym a.steps_are) (let few_seen = takes_these seen.steps few goes.trail in
-            omega (arith, length-append seen.steps [], lost-append seen.steps []));
+        bound =
+            let few_seen = takes_these seen.steps few goes.trail in
+            subst (λ (l : List Counted). length l ≤ WIDTH + 4 + 2 * lost_steps l) (sym a.steps_are)
+            (omega (arith, length-append seen.steps [], lost-append seen.steps []));
       }
 
   pub hold_ready : c ≡ HOLD → (shared : ObjectData) (after : SeatData) → IsReady shared before → HoldStood after → IsSeat after → IsReady shared after

@@ -5,7 +5,8 @@ use Rattle.std.proofs.lemmas.List.{take_all}
 use Rattle.big_atomic.proofs.Deciding.{there_now}
 use Rattle.big_atomic.proofs.Ending.{released_else}
 use Rattle.big_atomic.proofs.Goings.{calling_then}
-use Rattle.big_atomic.proofs.Installed.{EndsChange, LostInstall, announce_else, change_costs, change_filled, change_ready, change_scanned, change_tried, missed_holding, missed_install, no_lock, won_change}
+use Rattle.big_atomic.proofs.Installed.{EndsChange, LostInstall, announce_else, change_costs, change_filled, change_ready}
+use Rattle.big_atomic.proofs.Installed.{change_scanned, change_tried, missed_holding, missed_install, no_lock, won_change}
 use Rattle.big_atomic.proofs.Marking.{turn_begun}
 use Rattle.big_atomic.proofs.Pacing.{paces_then, paces_within}
 use Rattle.big_atomic.proofs.Paid.{costs_within, exchanges-append, lost-append, node_stores-append, scan_loads-append}

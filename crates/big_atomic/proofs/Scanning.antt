@@ -39,8 +39,9 @@ loads_are w (suc n) (c ∷ r) e =
     let l = loads_are (suc w) n r rest in record {
       still = ap (λ (k : Kind). still k && all_still r) head ∙ l.still;
       all = ap (λ (k : Kind). length (cond (is_scan_load k) (c ∷ filter (λ (step : Counted). is_scan_load step.kind) r) (filter (λ (step : Counted). is_scan_load step.kind) r))) head ∙ ap suc l.all;
-      none_filled = ap (λ (k : Kind). length (cond (is_node_store k) (c ∷ filter (λ (step : Counted). is_node_store step.kind) r) (filter (λ (step : Counted). is_node_store step.kind) r))) head
-          ∙ l.none_filled;
+      none_filled =
+          let later = filter (λ (step : Counted). is_node_store step.kind) r in
+          ap (λ (k : Kind). length (cond (is_node_store k) (c ∷ later) later)) head ∙ l.none_filled;
       long = ap suc l.long;
     }
 

@@ -6,7 +6,8 @@ use Rattle.big_atomic.proofs.Answered.{MayEnd, ended_back, held_then, right_at, 
 use Rattle.big_atomic.proofs.Goings.{calling_then, held_stays}
 use Rattle.big_atomic.proofs.Pacing.{paces_then}
 use Rattle.big_atomic.proofs.Paid.{costs_then, costs_within, exchanges-append, node_stores-append, scan_loads-append}
-use Rattle.big_atomic.proofs.Scanning.{holding_stays, own_words, own_words_later, scan_all, scan_few, scan_goes, scan_lost, scan_paced, scan_seen, scan_tried, scan_unfilled, scan_view, scanned_now}
+use Rattle.big_atomic.proofs.Scanning.{holding_stays, own_words, own_words_later, scan_all, scan_few, scan_goes, scan_lost}
+use Rattle.big_atomic.proofs.Scanning.{scan_paced, scan_seen, scan_tried, scan_unfilled, scan_view, scanned_now}
 use Rattle.big_atomic.specs.Calling.{Calling, Costs, Goes, HasReady, HasRoom}
 use Rattle.big_atomic.specs.Calls.{IsFullAnswer}
 use Rattle.big_atomic.specs.Giving.{Begun, HasDecided, HasTold, OnlyLooked, Past}

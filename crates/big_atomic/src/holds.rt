@@ -12,7 +12,7 @@ use seat_history::{Call, Rec, Reply};
 use step_rules::{Seat, Shared};
 
 /// Holds the record that a register has at this moment, until `release_hold`. Each further turn has a
-/// change of another caller to the register.
+/// change of another caller to the register, and is two steps more.
 pub fn hold(shared: &Shared, seat: &mut Seat, reg: u32)
     requires ready { IsReady shared.now seat.old }
     requires there { reg < shared.now.plan.registers }

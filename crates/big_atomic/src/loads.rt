@@ -11,7 +11,7 @@ use step_rules::{Seat, Shared};
 
 /// Loads a register: by one read of its inline words, which stores nothing, or, only where that found an
 /// odd version, a marked backup or two versions that differ, by a claim on its node. Each further turn has
-/// a change of another caller to the register.
+/// a change of another caller to the register, and is two steps more.
 pub fn load(shared: &Shared, seat: &mut Seat, reg: u32) -> Rec
     requires ready { IsReady shared.now seat.old }
     requires there { reg < shared.now.plan.registers }

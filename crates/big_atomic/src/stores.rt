@@ -10,7 +10,7 @@ use step_rules::{Seat, Shared};
 
 /// Gives a register a new record. A store of the record that is there exchanges nothing. Full comes
 /// only where no node is free after a scan of this call. Each further turn has a change of another
-/// caller to the register, and tries the node that the first one filled.
+/// caller to the register, and tries the node that the first one filled: none fills another.
 pub fn store(shared: &Shared, seat: &mut Seat, reg: u32, new: Rec) -> Stored
     requires ready { IsReady shared.now seat.old }
     requires there { reg < shared.now.plan.registers }
