@@ -83,8 +83,26 @@ static uint64_t moment(const unsigned char *header, const unsigned char *time) {
     return made_at > time_since ? made_at - time_since : 0;
 }
 
+// What came of an engine's flows, and the sequence number that its next datagram has where none is lost.
+struct Engine {
+    uint32_t next;
+    uint64_t flows = 0, lost = 0, resets = 0;
+};
+
+using Engines = std::map<std::pair<unsigned, unsigned>, Engine>; // by type and id
+
+static void add_datagram(Engines &engines, const unsigned char *header, uint32_t count) {
+    uint32_t sequence = number(header + 16, 4);
+    Engine &engine = engines.try_emplace({header[20], header[21]}, Engine{sequence}).first->second;
+    uint32_t gap = sequence - engine.next;
+    if (gap < 1u << 31) engine.lost += gap;
+    else engine.resets++;
+    engine.flows += count;
+    engine.next = sequence + count;
+}
+
 // Hands each record on, and tells how many datagrams there are.
-template <class Add> uint64_t decode(const std::vector<unsigned char> &bytes, const Add &add) {
+template <class Add> uint64_t decode(const std::vector<unsigned char> &bytes, Engines &engines, const Add &add) {
     uint64_t datagrams = 0;
     for (size_t at = 0; at < bytes.size(); datagrams++) {
         const unsigned char *d = bytes.data() + at;
@@ -92,6 +110,7 @@ template <class Add> uint64_t decode(const std::vector<unsigned char> &bytes, co
         if (left < 24 || number(d, 2) != 5) exit(6);
         unsigned count = number(d + 2, 2);
         if (count == 0 || count > 30 || left - 24 < 48 * count) exit(6);
+        add_datagram(engines, d, count);
         for (unsigned i = 0; i < count; i++) {
             const unsigned char *r = d + 24 + 48 * i;
             FlowKey key{number(r, 8), number(r + 32, 4) << 32 | number(r + 38, 2) << 16 | number(r + 12, 2)};
@@ -101,6 +120,12 @@ template <class Add> uint64_t decode(const std::vector<unsigned char> &bytes, co
     }
     return datagrams;
 }
+
+// What a report tells besides its flows.
+struct Totals {
+    uint64_t records = 0, datagrams = 0;
+    Engines engines;
+};
 
 [[maybe_unused]] static bool is_before(const Flow &a, const Flow &b) { return a.first < b.first; }
 
@@ -181,10 +206,10 @@ static std::vector<Flow> flows_in(Object &object, uint32_t buckets) {
     return flows;
 }
 
-static std::vector<Flow> tally(const std::vector<unsigned char> &bytes, int argc, char **argv, uint64_t &records, uint64_t &datagrams) {
+static std::vector<Flow> tally(const std::vector<unsigned char> &bytes, int argc, char **argv, Totals &totals) {
     std::vector<Flow> pairs;
-    datagrams = decode(bytes, [&](const FlowKey &key, const Sums &sums) { pairs.push_back({key, sums}); });
-    records = pairs.size();
+    totals.datagrams = decode(bytes, totals.engines, [&](const FlowKey &key, const Sums &sums) { pairs.push_back({key, sums}); });
+    totals.records = pairs.size();
     uint32_t workers = argc > 2 ? atoi(argv[2]) : 4, most = argc > 3 ? atoi(argv[3]) : 65536, buckets = argc > 4 ? atoi(argv[4]) : 65536;
     uint32_t share = 2 * most + 4 * workers + 1;
     end_phase("decode");
@@ -212,17 +237,16 @@ static std::vector<Flow> tally(const std::vector<unsigned char> &bytes, int argc
     return flows;
 }
 #else
-static std::vector<Flow> tally(const std::vector<unsigned char> &bytes, int, char **, uint64_t &records, uint64_t &datagrams) {
+static std::vector<Flow> tally(const std::vector<unsigned char> &bytes, int, char **, Totals &totals) {
 #ifdef HASHED
     std::unordered_map<FlowKey, Sums, Mix> flows;
 #else
     std::map<FlowKey, Sums> flows;
 #endif
-    records = 0;
-    datagrams = decode(bytes, [&](const FlowKey &key, const Sums &sums) {
+    totals.datagrams = decode(bytes, totals.engines, [&](const FlowKey &key, const Sums &sums) {
         auto [place, is_new] = flows.try_emplace(key, sums);
         if (!is_new) place->second.merge(sums);
-        records++;
+        totals.records++;
     });
     std::vector<Flow> sorted(flows.begin(), flows.end());
 #ifdef HASHED
@@ -234,11 +258,11 @@ static std::vector<Flow> tally(const std::vector<unsigned char> &bytes, int, cha
 
 int main(int argc, char **argv) {
     if (argc < 2) return 2;
-    uint64_t records, datagrams;
+    Totals totals;
     end_phase("");
     std::vector<unsigned char> bytes = read_file(argv[1]);
     end_phase("read");
-    std::vector<Flow> sorted = tally(bytes, argc, argv, records, datagrams);
+    std::vector<Flow> sorted = tally(bytes, argc, argv, totals);
     std::string out;
     out.reserve(sorted.size() * 160 + 256);
     char line[256];
@@ -253,7 +277,12 @@ int main(int argc, char **argv) {
         packets += v.packets;
         octets += v.octets;
     }
-    int n = snprintf(line, sizeof line, "flows %zu packets %" PRIu64 " octets %" PRIu64 " records %" PRIu64 " datagrams %" PRIu64 "\n", sorted.size(), packets, octets, records, datagrams);
+    for (auto &[engine, e] : totals.engines) {
+        int n = snprintf(line, sizeof line, "engine %u %u flows %" PRIu64 " lost %" PRIu64 " resets %" PRIu64 "\n", engine.first, engine.second, e.flows, e.lost, e.resets);
+        out.append(line, n);
+    }
+    int n = snprintf(line, sizeof line, "flows %zu packets %" PRIu64 " octets %" PRIu64 " records %" PRIu64 " datagrams %" PRIu64 "\n",
+        sorted.size(), packets, octets, totals.records, totals.datagrams);
     out.append(line, n);
     fwrite(out.data(), 1, out.size(), stdout);
     end_phase("report");

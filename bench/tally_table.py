@@ -8,7 +8,7 @@ The rows: the program before, where --before has its path; the proved program, w
 `rt run` leaves in crates/flow_tally/out unless --now has another path; the same plan in C++, with
 and without what brings words near (tally.cpp: -DAHEAD and -DRECLAIM); the same in another layout, that the proved one may not take (-DAPART
 -DNO_STAND); a private map of one thread; and nfdump's aggregation by the same seven fields over its own file (nfdump 1.7, with nfcapd, by UDP port
-9995). All run in turn, and all but nfdump have to write the same report. Then comes what the proved program takes beside the others, and how many
+9995). All run in turn, and all but nfdump and the program before have to write the same report. Then comes what the proved program takes beside the others, and how many
 looks and turns were lost in C++. With --huge the C library asks for large pages (GLIBC_TUNABLES=glibc.malloc.hugetlb=1), for all programs.
 """
 import argparse
@@ -27,7 +27,8 @@ BEFORE, NOW, WITH, WITHOUT, APART, PRIVATE = (
 
 
 def programs(asked: argparse.Namespace, folder: str) -> list[Program]:
-    found = [proved(BEFORE, asked.before)] if asked.before else []
+    # (an earlier program may have written another report)
+    found = [proved(BEFORE, asked.before)._replace(tells_all=False)] if asked.before else []
     found.append(proved(NOW, asked.now or proved_program("flow_tally")))
     for name, options in ((WITH, NEAR), (WITHOUT, ["-DSHARED"]), (APART, [*NEAR, "-DAPART", "-DNO_STAND"]), (PRIVATE, ["-DHASHED"])):
         found.append(plain(folder, name, options, asked.compiler))
