@@ -142,6 +142,7 @@ pub has_closed : {shared : ObjectData} {seats : List SeatData} {seat : SeatData}
 has_closed {seats = seats} {seat = seat} {closed = closed} scan is = record {
   plan_is = is.plan ∙ scan.done.ours.plan;
   closed_is = (seat, is, scan.numbers);
+  law = scan.done.law;
   callers = callers_below seat closed scan.done.law is;
   stands = is.stands ∙ scan.stands;
   seen = λ i d l. subst (λ (z : List Entry). GoesOn (get_or seats i d).view.seen z) (sym is.history) (scan.seen i d l);

@@ -4,16 +4,14 @@ pub mod Attempts
 pub mod Batches
 pub mod Begun
 pub mod ClosedFlows
+pub mod ClosedPairs
 pub mod ClosedWorkers
 pub mod Coming
 pub mod Folding
 pub mod Gathered
 pub mod InOrder
-pub mod Inserts
 pub mod Joined
-pub mod Keys
 pub mod Limits
-pub mod LineCosts
 pub mod Many
 pub mod Merged
 pub mod OnObject

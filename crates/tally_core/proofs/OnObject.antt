@@ -100,6 +100,7 @@ module _ {shared : ObjectData} {batches : BatchesData} (workers : ℕ) (pairs : 
   has_tallied : shared.plan.seats ≡ workers → HasTallied workers pairs (drawn_at drawers) (full_at drawers) closed
   has_tallied seats = record {
     closed_is = (closes.closed_is.0, closes.closed_is.1, closes.closed_is.2 ∙ (whole ∙ ap (count_up 0) (sym (ap (λ (p : Plan). p.seats) closes.plan_is ∙ seats))));
+    law = closes.law;
     workers_are = ap (λ (p : Plan). p.seats) closes.plan_is ∙ seats;
     added = λ w l. let within = at_least w l in added w (some_of drawers (omega (arith, within))) within;
     alone = λ w l. let within = at_least w l in worker_alone in_row closes w (some_of drawers (omega (arith, within))) within;

@@ -52,14 +52,14 @@ module _ (workers : ℕ) (pairs : Flows) (drawn : ℕ → List ℕ) (full : ℕ 
   part_added w (inl lt) below = ((tallied.added w lt).added, (tallied.added w lt).in_range, (tallied.added w lt).calls)
   part_added w (inr le) below = absurd (omega arith)
 
-  abbrev pub line : List Stand
+  abbrev line : List Stand
   line = line_of closed.plan.seats closed.history closed.stands
 
-  pub parts_added : AreAdded closed.plan line parts
+  parts_added : AreAdded closed.plan line parts
   parts_added w below = subst (λ (l : List Stand). AllZip Adds (parts w) (adding_in l) × AreInRange (parts w) × AllByRecursion IsTallyCall l) (sym (tallied.closed_is.1.line.order w below))
       (part_added w (cases_lt w workers) (subst (λ n. w < n) tallied.workers_are below))
 
-  pub line_told : Tells closed.plan closed.history blank_object [] line
+  line_told : Tells closed.plan closed.history blank_object [] line
   line_told = let is = tallied.closed_is.1 in line_tells closed.plan tallied.closed_is.0.view.numbers closed.history closed.stands is.whole is.lawful is.callers
 
   -- the object has the fold of these pairs

@@ -20,7 +20,7 @@ use Rattle.step_rules.specs.Closing.{ClosedData, IsClosed}
 use Rattle.step_rules.specs.History.{IsKey}
 use Rattle.step_rules.specs.Lawful.{is_full}
 use Rattle.step_rules.specs.Line.{stands_by}
-use Rattle.step_rules.specs.SeatData.{SeatData}
+use Rattle.step_rules.specs.SeatData.{IsSeat, SeatData}
 use Rattle.step_rules.specs.Stock.{AreOfOne}
 use Rattle.step_rules.specs.Views.{count_up}
 use Rattle.step_rules.specs.declared.plan.Plan.{Plan}
@@ -139,6 +139,7 @@ IsClosedWhole closed = (seat : SeatData) × IsClosed seat closed × (seat.view.n
 -- stands of its number, which are of a seat of no other
 pub record HasTallied (workers : ℕ) (pairs : Flows) (drawn : ℕ → List ℕ) (full : ℕ → Bool) (closed : ClosedData) : Type 0 where
   pub closed_is : IsClosedWhole closed
+  pub law : IsSeat closed_is.0
   pub workers_are : closed.plan.seats ≡ workers
   pub added : (w : ℕ) → w < workers → HasAdded (drawn_pairs pairs (drawn w)) (full w) (stands_by w closed.stands)
   pub alone : (w : ℕ) → w < workers → AreOfOne w (stands_by w closed.stands)

@@ -132,6 +132,7 @@ pub record HasGathered (shared : ObjectData) (seats : List SeatData) (seat : Sea
 pub record HasClosed (shared : ObjectData) (seats : List SeatData) (closed : ClosedData) : Type 0 where
   pub plan_is : closed.plan ≡ shared.plan
   pub closed_is : (seat : SeatData) × IsClosed seat closed × (seat.view.numbers ≡ all_numbers seats)
+  pub law : IsSeat closed_is.0
   pub callers : All (λ (s : Stand). s.by < closed.plan.seats) closed.stands
   pub stands : closed.stands ≡ all_stands seats
   pub seen : All (λ (one : SeatData). GoesOn one.view.seen closed.history) seats
